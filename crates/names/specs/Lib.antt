@@ -1,0 +1,4 @@
+pub mod Words
+pub mod Examples
+pub mod Table
+pub mod Listings

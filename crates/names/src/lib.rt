@@ -1,0 +1,3 @@
+pub mod reserved;
+pub mod table;
+pub mod text;

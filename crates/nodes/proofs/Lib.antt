@@ -1,0 +1,10 @@
+pub mod Rows
+pub mod Members
+pub mod Laws
+pub mod Building
+pub mod Standing
+pub mod Levels
+pub mod Counting
+pub mod Reaching
+pub mod Spines
+pub mod NewNode

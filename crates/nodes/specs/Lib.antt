@@ -1,0 +1,4 @@
+pub mod Meaning
+pub mod Made
+pub mod Put
+pub mod Spine

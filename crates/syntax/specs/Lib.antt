@@ -1,0 +1,3 @@
+pub mod Operators
+pub mod Expr
+pub mod Names

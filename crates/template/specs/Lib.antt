@@ -1,0 +1,4 @@
+pub mod Raw
+pub mod Claims
+pub mod Worked
+pub mod Machine

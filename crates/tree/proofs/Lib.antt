@@ -1,0 +1,5 @@
+pub mod Steps
+pub mod Marking
+pub mod Admitting
+pub mod Adding
+pub mod Naming

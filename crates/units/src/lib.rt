@@ -1,0 +1,4 @@
+pub mod code_point;
+pub mod sink;
+pub mod span;
+pub mod stack;

@@ -1,0 +1,6 @@
+mod Integers
+mod Literals
+mod Zeros
+mod Lengths
+mod Laws
+pub mod Once

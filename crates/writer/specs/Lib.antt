@@ -1,0 +1,4 @@
+pub mod Literal
+pub mod Texts
+pub mod Writers
+pub mod Examples
