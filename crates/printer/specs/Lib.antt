@@ -4,4 +4,6 @@ pub mod Quoted
 pub mod Show
 pub mod Printed
 pub mod Numerals
+pub mod Views
+pub mod Fitted
 pub mod Examples

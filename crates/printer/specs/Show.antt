@@ -32,6 +32,10 @@ space Un.bitNot = []
 space Un.typeof = codes " "
 space Un.void = codes " "
 
+-- a unary operator as it stands before its operand
+abbrev pub prefixed : Un → List ℕ
+prefixed o = unText o ++ space o
+
 -- what stands before a member's name, and before an index's and a call's bracket
 abbrev pub dot : Bool → List ℕ
 dot true = codes "?."

@@ -8,10 +8,11 @@ ghost use Rattle.units.specs.Sinks.{put, stateOf, lenderOf};
 ghost use Rattle.printer.specs.Form.{spellNumber};
 ghost use Rattle.printer.specs.Parens.{shape};
 ghost use Rattle.printer.specs.Numerals.{Gives};
-ghost use Rattle.printer.specs.Printed.{printed, printedAt};
-use crate::parens::Place;
+ghost use Rattle.printer.specs.Printed.{printed};
 use crate::parens::Shape;
+use crate::view::View;
 use units::sink::Sink;
+use writer::NumberWriter;
 
 // The shape of a number that is spelled out.
 pub fn number_shape(x: f64) -> Shape
@@ -47,16 +48,15 @@ pub fn number(sink: &mut Sink, x: f64, magnitude: &[u8])
     sink.bytes(magnitude);
 }
 
-// Puts a number at a place, in parentheses where its spelled-out form wants them.
-pub fn number_at(sink: &mut Sink, x: f64, magnitude: &[u8], place: Place)
-    ensures state { λ _. ⌜ ((w : Float → Option (List ℕ)) → Gives w x (now (magnitude .entry)) → stateOf (now (sink .exit)) ≡ put (stateOf (now (sink .entry))) (printedAt w place (Expr.number x))) ⌝ }
-    ensures lent { λ _. ⌜ lenderOf (now (sink .exit)) ≡ lenderOf (now (sink .entry)) ⌝ }
-{
-    if place.parenthesises(number_shape(x)) {
-        sink.byte(b'(');
-        number(sink, x, magnitude);
-        sink.byte(b')');
-    } else {
-        number(sink, x, magnitude);
+impl<W: NumberWriter> View<'_, W> {
+    // Puts a number by itself. Where the writer has no text for its magnitude, nothing stands for that.
+    pub(crate) fn number(&self, sink: &mut Sink, x: f64)
+        ensures state { λ _. ⌜ stateOf (now (sink .exit)) ≡ put (stateOf (now (sink .entry))) (printed (W·NumberWriter .text) (Expr.number x)) ⌝ }
+        ensures lent { λ _. ⌜ lenderOf (now (sink .exit)) ≡ lenderOf (now (sink .entry)) ⌝ }
+    {
+        match self.writer.write(x.abs()) {
+            Some(text) => number(sink, x, &text.bytes[0..text.len]),
+            None => number(sink, x, &[]),
+        }
     }
 }

@@ -6,7 +6,7 @@ use mathlib.Core.Path.{_≡_}
 use Prim.Native.Nat.{ℕ, suc, _+_, _<_, _≤_}
 use lib.Dec.{ltb}
 use lib.Ieee.{Float}
-use lib.ListN.{length, getD}
+use lib.ListN.{length, getD, drop}
 use Rattle.std.specs.declared.option.Option.{Option}
 use Rattle.std.specs.declared.option.Option.the-variants.{Some, None}
 use Rattle.std.specs.Options.{isSome}
@@ -23,6 +23,7 @@ use Rattle.nodes.specs.declared.shape.Shape.{Shape}
 use Rattle.nodes.specs.declared.shape.Shape.the-variants as S
 use Rattle.nodes.specs.Meaning.{Texts, unitsOf, at, has}
 use Rattle.nodes.specs.Made.{given, made, countFits, marksFit, deepest, nodes, loose, free}
+use Rattle.printer.specs.Printed.{printed}
 use Rattle.tree.specs.declared.refusal.Refusal.{Refusal}
 use Rattle.tree.specs.declared.refusal.Refusal.the-variants as R
 use Rattle.tree.specs.declared.refusal.OpenError.{OpenError}
@@ -244,3 +245,21 @@ pub record Opened (entries folded : ℕ) (source : List ℕ) (a : State) : Type 
   pub classes : a .classes ≡ []
   pub root : a .root ≡ None
   pub room : a .room ≡ folded
+
+-- ---- print
+
+abbrev pub PrintRefused : (Float → Option (List ℕ)) → State → List ℕ → Refusal → Type 0
+PrintRefused text a out R.WrongTime = a .root ≡ None
+PrintRefused text a out R.ShortOutput = (r : ℕ) × (a .root ≡ Some r) × (length out < length (printed text (standsFor a r)))
+PrintRefused text a out R.BadName = ⊥
+PrintRefused text a out R.NotListed = ⊥
+PrintRefused text a out R.NoSuchNode = ⊥
+PrintRefused text a out R.BadNode = ⊥
+PrintRefused text a out R.LooseMark = ⊥
+PrintRefused text a out R.TooDeep = ⊥
+PrintRefused text a out R.NoRoom = ⊥
+
+-- the output begins with the text of the root's spelled-out form, and the rest of it is as it was
+abbrev pub PrintedTo : (Float → Option (List ℕ)) → State → List ℕ → ℕ → List ℕ → Type 0
+PrintedTo text a before n after =
+    (r : ℕ) × (a .root ≡ Some r) × (n ≡ length (printed text (standsFor a r))) × (n ≤ length before) × (after ≡ printed text (standsFor a r) ++ drop n before)

@@ -112,7 +112,7 @@ impl Store {
     }
 
     // A new node over nodes that have no parent yet; it has the next number.
-    pub fn build(&mut self, shape: Shape, parts: &[Part], written: bool) -> Result<u16, Refusal>
+    pub(crate) fn build(&mut self, shape: Shape, parts: &[Part], written: bool) -> Result<u16, Refusal>
         ensures { λ r. ⌜ Cases r (λ n. Built written (stateOf (now (self .entry))) shape (now (parts .entry)) n (stateOf (now (self .exit)))) (λ e. BuildRefused written (stateOf (now (self .entry))) shape (now (parts .entry)) e × (stateOf (now (self .exit)) ≡ stateOf (now (self .entry)))) ⌝ }
     {
         let below = match self.admit(shape, parts, written) {

@@ -19,7 +19,7 @@ impl Store {
     }
 
     // Lists a name, and says what it is; the answer is its index.
-    pub fn name(&mut self, text: &[u16], class: Class) -> Result<u16, Refusal>
+    pub(crate) fn name(&mut self, text: &[u16], class: Class) -> Result<u16, Refusal>
         ensures { λ r. ⌜ Cases r (λ i. Named (stateOf (now (self .entry))) (now (text .entry)) class i (stateOf (now (self .exit)))) (λ e. NameRefused (stateOf (now (self .entry))) (now (text .entry)) class e × (stateOf (now (self .exit)) ≡ stateOf (now (self .entry)))) ⌝ }
     {
         if self.root.is_some() {

@@ -28,7 +28,7 @@ const BLANK: Entry = Entry {
 
 impl Store {
     // A tree with places for so many nodes and so much folded text, over a copy of the source text.
-    pub fn open(heap: Global, entries: usize, folded: usize, source: &[u16]) -> Result<Store, OpenError>
+    pub(crate) fn open(heap: Global, entries: usize, folded: usize, source: &[u16]) -> Result<Store, OpenError>
         ensures { λ r. ⌜ Cases r (λ s. Opened entries folded (now (source .entry)) (stateOf s)) (λ e. OpenRefused entries folded (now (source .entry)) e) ⌝ }
     {
         if entries < MIN_ENTRIES || entries > MAX_ENTRIES || folded > MAX_UNITS || source.len() > MAX_UNITS {

@@ -10,7 +10,7 @@ use nodes::kind::Entry;
 
 // A tree without its writer. Its memory is all taken when it is opened.
 #[derive(Drop)]
-pub struct Store {
+pub(crate) struct Store {
     pub(crate) entries: Vec<Entry>,
     pub(crate) used: usize,
     pub(crate) names: Names,
