@@ -52,12 +52,12 @@ linked-kept (p ∷ ps) n es low x =
     let old = linked-kept ps n es (λ y i. low y (inr i)) x in
     ⊎-elim
     (λ (e : x ≡ p .node).
-      let lt : p .node < length (linked ps n es) = rw (length-linked ps n es) (low (p .node) (inl refl)) in
-      let now : at (linked (p ∷ ps) n es) x ≡ tied (at (linked ps n es) x) n (firstOf ps) (p .after) = rw e (getD-set-same (linked ps n es) (p .node) _ blank lt) in
-      record { kind = ap (λ (y : Entry). y .kind) now ∙ old .kind; height = ap (λ (y : Entry). y .height) now ∙ old .height })
+    let lt : p .node < length (linked ps n es) = rw (length-linked ps n es) (low (p .node) (inl refl)) in
+    let now : at (linked (p ∷ ps) n es) x ≡ tied (at (linked ps n es) x) n (firstOf ps) (p .after) = rw e (getD-set-same (linked ps n es) (p .node) _ blank lt) in
+    record { kind = ap (λ (y : Entry). y .kind) now ∙ old .kind; height = ap (λ (y : Entry). y .height) now ∙ old .height })
     (λ (ne : x ≢ p .node).
-      let now : at (linked (p ∷ ps) n es) x ≡ at (linked ps n es) x = getD-set-other (linked ps n es) (p .node) x _ blank ne in
-      rw now old)
+    let now : at (linked (p ∷ ps) n es) x ≡ at (linked ps n es) x = getD-set-other (linked ps n es) (p .node) x _ blank ne in
+    rw now old)
     (cases-eq x (p .node))
 
 linked-parent : (ps : List Part) (n : ℕ) (es : List Entry) → ((x : ℕ) → In x (nodes ps) → x < length es) → (x : ℕ) → In x (nodes ps) → at (linked ps n es) x .parent ≡ Some n
@@ -78,8 +78,8 @@ linked-after P [] n es low a x p = p
 linked-after P (q ∷ ps) n es low a x p =
     ⊎-elim
     (λ (e : x ≡ q .node).
-      let lt : q .node < length (linked ps n es) = rw (length-linked ps n es) (low (q .node) (inl refl)) in
-      rw (e, getD-set-same (linked ps n es) (q .node) (tied (at (linked ps n es) (q .node)) n (firstOf ps) (q .after)) blank lt) (a .0))
+    let lt : q .node < length (linked ps n es) = rw (length-linked ps n es) (low (q .node) (inl refl)) in
+    rw (e, getD-set-same (linked ps n es) (q .node) (tied (at (linked ps n es) (q .node)) n (firstOf ps) (q .after)) blank lt) (a .0))
     (λ (ne : x ≢ q .node). rw (getD-set-other (linked ps n es) (q .node) x (tied (at (linked ps n es) (q .node)) n (firstOf ps) (q .after)) blank ne) (linked-after P ps n es (λ y i. low y (inr i)) (a .1) x p))
     (cases-eq x (q .node))
 
@@ -92,7 +92,7 @@ linked-row (p ∷ ps) n es low o =
     let now : at (set (linked ps n es) (p .node) t) (p .node) ≡ t = getD-set-same (linked ps n es) (p .node) t blank lt in
     let rest = linked-row ps n es (λ y i. low y (inr i)) (o .1) in
     let same : links (set (linked ps n es) (p .node) t) (length ps) (firstOf ps) ≡ links (linked ps n es) (length ps) (firstOf ps) = links-same (linked ps n es) (set (linked ps n es) (p .node) t) (length ps) (firstOf ps)
-          (λ x i. let ne : x ≢ p .node = λ e. o .0 (subst (λ (y : ℕ). In y (nodes ps)) e (subst (In x) (ap nums rest ∙ nums-pairs ps) i)) in let off = getD-set-other (linked ps n es) (p .node) x t blank ne in (ap (λ (y : Entry). y .next) off, ap (λ (y : Entry). y .after) off)) in
+    (λ x i. let ne : x ≢ p .node = λ e. o .0 (subst (λ (y : ℕ). In y (nodes ps)) e (subst (In x) (ap nums rest ∙ nums-pairs ps) i)) in let off = getD-set-other (linked ps n es) (p .node) x t blank ne in (ap (λ (y : Entry). y .next) off, ap (λ (y : Entry). y .after) off)) in
     rw (ap (λ (y : Entry). y .next) now, ap (λ (y : Entry). y .after) now) (ap (λ (xs : List (ℕ × Span)). (p .node, p .after) ∷ xs) (same ∙ rest))
 
 none-of : (o : Option ℕ) → not (isSome o) ≡ true → o ≡ None
@@ -180,8 +180,8 @@ module _ (es : List Entry) (used : ℕ) (k : Kind) (h : ℕ) (ps : List Part) (s
   new-row =
       let made = linked-row ps used es low (once-distinct (nodes ps) (free-distinct es used ps fr)) in
       links-same (linked ps used es) fs (length ps) (firstOf ps) (λ x i.
-        let e = old-at x (part-free x (subst (In x) (ap nums made ∙ nums-pairs ps) i) .0) in
-        (ap (λ (y : Entry). y .next) e, ap (λ (y : Entry). y .after) e)) ∙ made
+      let e = old-at x (part-free x (subst (In x) (ap nums made ∙ nums-pairs ps) i) .0) in
+      (ap (λ (y : Entry). y .next) e, ap (λ (y : Entry). y .after) e)) ∙ made
 
   module _ (fits : kidsOf k (linksOf fs k) ≡ nodes ps) (tall : (x : ℕ) → In x (nodes ps) → at es x .height < h) where
     new-kids : kids fs used ≡ nodes ps
@@ -208,9 +208,9 @@ module _ (es : List Entry) (used : ℕ) (k : Kind) (h : ℕ) (ps : List Part) (s
     built-sound n x u =
         ⊎-elim
         (λ lt. let j = old-in n x lt (u .1) in let w = s n x (under es used n x lt j) in
-          (omega (arith, w .0), rw (old-height n lt, old-height x (w .0)) (w .1), ap (λ (y : Entry). y .parent) (old-off n x lt j) ∙ w .2))
+        (omega (arith, w .0), rw (old-height n lt, old-height x (w .0)) (w .1), ap (λ (y : Entry). y .parent) (old-off n x lt j) ∙ w .2))
         (λ e. let i = new-in n x e (u .1) in let w = part-free x i in
-          (omega (arith, w .0), rw (e, old-height x (w .0), new-at) (tall x i), rw e (new-parent x i)))
+        (omega (arith, w .0), rw (e, old-height x (w .0), new-at) (tall x i), rw e (new-parent x i)))
         (way n (u .0))
 
     pub built-single : Single es used → Single fs (used + 1)
@@ -226,15 +226,15 @@ module _ (es : List Entry) (used : ℕ) (k : Kind) (h : ℕ) (ps : List Part) (s
     built-held g n x (lt, p) =
         ⊎-elim
         (λ (l : x < used).
-          ⊎-elim
-          (λ (i : has x (nodes ps) ≡ true).
-            let e : n ≡ used = let q : Some n ≡ Some used = sym p ∙ new-parent x (has-in x (nodes ps) i) in cc in
-            and-from (ltb n (used + 1)) (has x (kids fs n)) (lt-ltb n (used + 1) (omega arith)) (rw (e, new-kids) i))
-          (λ (i : has x (nodes ps) ≡ false).
-            let off : at fs x ≡ at es x = old-at x l ∙ linked-off ps used es x (λ j. both-ways (has x (nodes ps)) i (in-has x (nodes ps) j)) in
-            let w = held-under es used g n x l (sym (ap (λ (y : Entry). y .parent) off) ∙ p) in
-            and-from (ltb n (used + 1)) (has x (kids fs n)) (lt-ltb n (used + 1) (omega (arith, w .0))) (rw (old-kids n (w .0)) (w .1)))
-          (cases-bool (has x (nodes ps))))
+        ⊎-elim
+        (λ (i : has x (nodes ps) ≡ true).
+        let e : n ≡ used = let q : Some n ≡ Some used = sym p ∙ new-parent x (has-in x (nodes ps) i) in cc in
+        and-from (ltb n (used + 1)) (has x (kids fs n)) (lt-ltb n (used + 1) (omega arith)) (rw (e, new-kids) i))
+        (λ (i : has x (nodes ps) ≡ false).
+        let off : at fs x ≡ at es x = old-at x l ∙ linked-off ps used es x (λ j. both-ways (has x (nodes ps)) i (in-has x (nodes ps) j)) in
+        let w = held-under es used g n x l (sym (ap (λ (y : Entry). y .parent) off) ∙ p) in
+        and-from (ltb n (used + 1)) (has x (kids fs n)) (lt-ltb n (used + 1) (omega (arith, w .0))) (rw (old-kids n (w .0)) (w .1)))
+        (cases-bool (has x (nodes ps))))
         (λ (e : x ≡ used). absurd (none-some (at fs x .parent) n (rw (e, new-at) refl) p))
         (way x lt)
 

@@ -87,12 +87,12 @@ pub frame : (t u : Texts) (es fs : List Entry) (used used′ : ℕ) → Sound es
 frame t u es fs used used′ s s′ P keep n p =
     below t es used s P (λ m. expr u fs m ≡ expr t es m)
     (λ m lt pm ih.
-      let w = keep m pm in
-      let a = unfold-expr u fs used′ s′ m (w .1) in
-      let b = unfold-expr t es used s m lt in
-      let c : mean u (expr u fs) (at fs m .kind) (linksOf fs (at fs m .kind)) ≡ mean u (expr u fs) (at es m .kind) (linksOf es (at es m .kind)) = rw (w .2, w .3) refl in
-      let d = mean-cong u (expr u fs) (expr t es) (at es m .kind) (linksOf es (at es m .kind)) (λ k i. ih k i (s m k (under es used m k lt i) .0) (w .5 k i)) in
-      a ∙ c ∙ d ∙ w .4 (expr t es) ∙ sym b)
+    let w = keep m pm in
+    let a = unfold-expr u fs used′ s′ m (w .1) in
+    let b = unfold-expr t es used s m lt in
+    let c : mean u (expr u fs) (at fs m .kind) (linksOf fs (at fs m .kind)) ≡ mean u (expr u fs) (at es m .kind) (linksOf es (at es m .kind)) = rw (w .2, w .3) refl in
+    let d = mean-cong u (expr u fs) (expr t es) (at es m .kind) (linksOf es (at es m .kind)) (λ k i. ih k i (s m k (under es used m k lt i) .0) (w .5 k i)) in
+    a ∙ c ∙ d ∙ w .4 (expr t es) ∙ sym b)
     n (keep n p .0) p
 
 -- a row is read off the entries on it alone

@@ -87,6 +87,7 @@ max-times c a b =
   where
     le-of : (a b : ℕ) → a < b → a ≤ b
     le-of a b l = omega arith
+
     mul-le : (c a b : ℕ) → a ≤ b → c * a ≤ c * b
     mul-le c a b l = native.Mathlib.Nat.mul-le-mul-left c l
 

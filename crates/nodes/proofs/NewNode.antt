@@ -56,7 +56,7 @@ module _ (t : Texts) (es : List Entry) (used : ℕ) (sh : Shape) (ps : List Part
   stands-for =
       unfold-expr t fs (used + 1) new-sound used (omega arith)
       ∙ rw (new-at es used (kindOf sh ps) (tallest es ps + 4) ps s fr room)
-        (mean-cong t (expr t fs) (expr t es) (kindOf sh ps) (linksOf fs (kindOf sh ps)) (λ x i. new-others x (free-each es used ps fr x (subst (In x) (meant .0) i) .0)) ∙ meant .1)
+      (mean-cong t (expr t fs) (expr t es) (kindOf sh ps) (linksOf fs (kindOf sh ps)) (λ x i. new-others x (free-each es used ps fr x (subst (In x) (meant .0) i) .0)) ∙ meant .1)
 
   pub new-stands : made t sh (given t es ps) ≡ Some (expr t fs used)
   new-stands = made-expr .1 ∙ ap Some (sym stands-for)
@@ -65,10 +65,10 @@ module _ (t : Texts) (es : List Entry) (used : ℕ) (sh : Shape) (ps : List Part
   new-levels l n lt =
       ⊎-elim
       (λ (e : n ≡ used).
-        let a = made-levels t sh (given t es ps) (expr t fs used) new-stands in
-        let b = tallest-deepest 4 t es ps (λ x i. l x (free-each es used ps fr x i .0)) in
-        rw (e, new-at es used (kindOf sh ps) (tallest es ps + 4) ps s fr room, a) (omega arith))
+      let a = made-levels t sh (given t es ps) (expr t fs used) new-stands in
+      let b = tallest-deepest 4 t es ps (λ x i. l x (free-each es used ps fr x i .0)) in
+      rw (e, new-at es used (kindOf sh ps) (tallest es ps + 4) ps s fr room, a) (omega arith))
       (λ (ne : n ≡ used → ⊥).
-        let lo : n < used = omega arith in
-        rw (old-height es used (kindOf sh ps) (tallest es ps + 4) ps s fr room n lo, new-others n lo) (l n lo))
+      let lo : n < used = omega arith in
+      rw (old-height es used (kindOf sh ps) (tallest es ps + 4) ps s fr room n lo, new-others n lo) (l n lo))
       (cases-eq n used)

@@ -128,10 +128,12 @@ module _ (t : Texts) (es : List Entry) where
         (rw (r .0) (nums-pairs ps), rw (r .0) (ap (Expr.template (unitsOf t s)) (parts-given g ps (r .1)) ∙ when-is (leb (length (given t es ps)) 64) (Expr.template (unitsOf t s) (substitutions (given t es ps))) e m))
     stands (S.Member s m′) ps e r m = by-one (S.Member s m′) ps e _ r m λ p a f. (refl, rw a (same (Expr.member m′ (expr t es (p .node)) (unitsOf t s)) e f))
     stands (S.Index m′) ps e r m = by-two (S.Index m′) ps e _ r m λ p q a b f. (refl, rw (a, b) (same (Expr.index m′ (expr t es (p .node)) (expr t es (q .node))) e f))
-    stands (S.Call m′) ps e r m = by-some (S.Call m′) ps e _ r m λ p qs a b l f.
-        (ap (λ (xs : List (ℕ × Span)). p .node ∷ nums xs) l ∙ ap (λ (xs : List ℕ). p .node ∷ xs) (nums-pairs qs),
-         rw (l, a, b) (when-is (leb (length (given t es qs)) 8) (Expr.call m′ (expr t es (p .node)) (exprs (given t es qs))) e f))
+    stands (S.Call m′) ps e r m = by-some (S.Call m′) ps e _ r m λ p qs a b l f. (
+      ap (λ (xs : List (ℕ × Span)). p .node ∷ nums xs) l ∙ ap (λ (xs : List ℕ). p .node ∷ xs) (nums-pairs qs),
+      rw (l, a, b) (when-is (leb (length (given t es qs)) 8) (Expr.call m′ (expr t es (p .node)) (exprs (given t es qs))) e f),
+    )
     stands S.Chain ps e r m = by-one S.Chain ps e _ r m λ p a f. (refl, rw a (same (Expr.chain (expr t es (p .node))) e f))
-    stands S.Sequence ps e r m = by-some S.Sequence ps e _ r m λ p qs a b l f.
-        (ap (λ (xs : List (ℕ × Span)). p .node ∷ nums xs) l ∙ ap (λ (xs : List ℕ). p .node ∷ xs) (nums-pairs qs),
-         rw (l, a, b) (when-is (leb 1 (length (given t es qs)) && leb (length (given t es qs)) 7) (Expr.sequence (expr t es (p .node)) (exprs (given t es qs))) e f))
+    stands S.Sequence ps e r m = by-some S.Sequence ps e _ r m λ p qs a b l f. (
+      ap (λ (xs : List (ℕ × Span)). p .node ∷ nums xs) l ∙ ap (λ (xs : List ℕ). p .node ∷ xs) (nums-pairs qs),
+      rw (l, a, b) (when-is (leb 1 (length (given t es qs)) && leb (length (given t es qs)) 7) (Expr.sequence (expr t es (p .node)) (exprs (given t es qs))) e f),
+    )

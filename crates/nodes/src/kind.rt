@@ -20,12 +20,30 @@ pub enum Kind {
     EmptyArray,
     Unary(UnaryOperator, u16),
     Binary(BinaryOperator, u16, u16),
-    Template { head: Span, parts: Row },
-    Member { object: u16, name: Span, optional: bool },
-    Index { object: u16, key: u16, optional: bool },
-    Call { callee: u16, arguments: Row, optional: bool },
+    Template {
+        head: Span,
+        parts: Row,
+    },
+    Member {
+        object: u16,
+        name: Span,
+        optional: bool,
+    },
+    Index {
+        object: u16,
+        key: u16,
+        optional: bool,
+    },
+    Call {
+        callee: u16,
+        arguments: Row,
+        optional: bool,
+    },
     Chain(u16),
-    Sequence { first: u16, rest: Row },
+    Sequence {
+        first: u16,
+        rest: Row,
+    },
 }
 
 // A node's place in a tree. A node is higher than each of its parts. `next` and `after` are about a part in a

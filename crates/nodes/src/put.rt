@@ -43,12 +43,30 @@ pub fn kind_of(shape: Shape, parts: &[Part]) -> Kind
         Shape::EmptyArray => Kind::EmptyArray,
         Shape::Unary(o) => Kind::Unary(o, first),
         Shape::Binary(o) => Kind::Binary(o, first, second),
-        Shape::Template(head) => Kind::Template { head, parts: row_at(parts, 0) },
-        Shape::Member { name, optional } => Kind::Member { object: first, name, optional },
-        Shape::Index { optional } => Kind::Index { object: first, key: second, optional },
-        Shape::Call { optional } => Kind::Call { callee: first, arguments: row_at(parts, 1), optional },
+        Shape::Template(head) => Kind::Template {
+            head,
+            parts: row_at(parts, 0),
+        },
+        Shape::Member { name, optional } => Kind::Member {
+            object: first,
+            name,
+            optional,
+        },
+        Shape::Index { optional } => Kind::Index {
+            object: first,
+            key: second,
+            optional,
+        },
+        Shape::Call { optional } => Kind::Call {
+            callee: first,
+            arguments: row_at(parts, 1),
+            optional,
+        },
         Shape::Chain => Kind::Chain(first),
-        Shape::Sequence => Kind::Sequence { first, rest: row_at(parts, 1) },
+        Shape::Sequence => Kind::Sequence {
+            first,
+            rest: row_at(parts, 1),
+        },
     }
 }
 

@@ -8,8 +8,27 @@ pub fn link_of(kind: Kind) -> Option<Link>
     ensures { λ r. ⌜ r ≡ linkOf kind ⌝ }
 {
     match kind {
-        Kind::Member { object, optional, .. } | Kind::Index { object, optional, .. } => Some(Link { part: object, optional }),
-        Kind::Call { callee, optional, .. } => Some(Link { part: callee, optional }),
+        Kind::Member {
+            object,
+            optional,
+            ..
+        }
+        | Kind::Index {
+            object,
+            optional,
+            ..
+        } => Some(Link {
+            part: object,
+            optional,
+        }),
+        Kind::Call {
+            callee,
+            optional,
+            ..
+        } => Some(Link {
+            part: callee,
+            optional,
+        }),
         _ => None,
     }
 }

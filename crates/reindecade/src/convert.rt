@@ -31,7 +31,7 @@ fn value_of(word: ConstantWord) -> Value {
     }
 }
 
-pub fn class_of(word: ClassWord) -> Class {
+pub(crate) fn class_of(word: ClassWord) -> Class {
     match word {
         ClassWord::Free => Class::Free,
         ClassWord::Bound => Class::Bound,
@@ -42,7 +42,7 @@ pub fn class_of(word: ClassWord) -> Class {
     }
 }
 
-pub fn shape_of(word: ShapeWord) -> Shape {
+pub(crate) fn shape_of(word: ShapeWord) -> Shape {
     match word {
         ShapeWord::Number(x) => Shape::Number(x),
         ShapeWord::String(place) => Shape::String(span_of(place)),
@@ -64,7 +64,7 @@ pub fn shape_of(word: ShapeWord) -> Shape {
     }
 }
 
-pub fn parts_of(heap: Global, words: &[PartWord]) -> Result<Vec<Part>, AllocError> {
+pub(crate) fn parts_of(heap: Global, words: &[PartWord]) -> Result<Vec<Part>, AllocError> {
     let mut parts = Vec::new(heap);
     for word in words {
         parts.push(Part {

@@ -1,4 +1,5 @@
-pub const TEXT: &str = "reindecade reads a script from standard input, one call a line, and answers each with one line.
+pub const TEXT: &str =
+    "reindecade reads a script from standard input, one call a line, and answers each with one line.
 
 open ENTRIES FOLDED WRITER \"SOURCE\"    a tree of 16 to 4096 nodes; WRITER: plain | short; \"SOURCE\" is a JSON string
 name TEXT free | bound

@@ -41,7 +41,7 @@ fn push_point(text: &mut String, point: u32) -> Result<(), AllocError> {
     }
 }
 
-pub fn json(heap: Global, units: &[u16]) -> Result<String, AllocError> {
+pub(crate) fn json(heap: Global, units: &[u16]) -> Result<String, AllocError> {
     let mut text = String::from_str(heap, "\"")?;
     let mut at = 0;
     while let Some(point) = code_point_at(units, at) {

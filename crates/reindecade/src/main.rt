@@ -36,7 +36,13 @@ fn summarise(rt: &LibcRuntime, tally: &Tally) -> io::Result<()> {
 }
 
 // Performs one line of a script.
-fn step(rt: &LibcRuntime, tally: &mut Tally, tree: Current, text: &str, count: &mut Count) -> io::Result<Current> {
+fn step(
+    rt: &LibcRuntime,
+    tally: &mut Tally,
+    tree: Current,
+    text: &str,
+    count: &mut Count,
+) -> io::Result<Current> {
     count.lines = count.lines.saturating_add(1);
     let number = count.lines;
     match parse(rt.alloc(), text)? {

@@ -31,7 +31,12 @@ fn refused(rt: &LibcRuntime, tally: &mut Tally, verb: &str, refusal: Refusal) ->
     println!(rt, "{verb}: {number}")
 }
 
-fn print<W: NumberWriter + Drop>(rt: &LibcRuntime, tally: &mut Tally, tree: &Tree<W>, capacity: usize) -> io::Result<()> {
+fn print<W: NumberWriter + Drop>(
+    rt: &LibcRuntime,
+    tally: &mut Tally,
+    tree: &Tree<W>,
+    capacity: usize,
+) -> io::Result<()> {
     let Ok(mut out) = Vec::from_elem(rt.alloc(), 0u8, capacity) else {
         return println!(rt, "print: no memory");
     };
@@ -48,7 +53,12 @@ fn print<W: NumberWriter + Drop>(rt: &LibcRuntime, tally: &mut Tally, tree: &Tre
 }
 
 // Performs a call on a tree, and says in a line what came of it.
-fn perform<W: NumberWriter + Drop>(rt: &LibcRuntime, tally: &mut Tally, tree: &mut Tree<W>, call: Call) -> io::Result<()> {
+fn perform<W: NumberWriter + Drop>(
+    rt: &LibcRuntime,
+    tally: &mut Tally,
+    tree: &mut Tree<W>,
+    call: Call,
+) -> io::Result<()> {
     match call {
         Call::Open { .. } => Ok(()),
         Call::Name { text, class } => match tree.name(&text, class_of(class)) {
@@ -98,7 +108,14 @@ fn opened(rt: &LibcRuntime, tally: &mut Tally, tree: Current) -> io::Result<Curr
 }
 
 // Opens a tree with the writer of that name; none where that is refused.
-fn open(rt: &LibcRuntime, tally: &mut Tally, entries: usize, folded: usize, writer: WriterName, source: &[u16]) -> io::Result<Current> {
+fn open(
+    rt: &LibcRuntime,
+    tally: &mut Tally,
+    entries: usize,
+    folded: usize,
+    writer: WriterName,
+    source: &[u16],
+) -> io::Result<Current> {
     match writer {
         WriterName::Plain => match Tree::open(rt.alloc(), entries, folded, source, Plain) {
             Ok(tree) => opened(rt, tally, Current::Plain(tree)),
@@ -113,9 +130,19 @@ fn open(rt: &LibcRuntime, tally: &mut Tally, entries: usize, folded: usize, writ
 
 impl Current {
     // Performs a call; false, and nothing done, where it wants a tree and none is open.
-    pub fn perform(self, rt: &LibcRuntime, tally: &mut Tally, call: Call) -> io::Result<(Current, bool)> {
+    pub(crate) fn perform(
+        self,
+        rt: &LibcRuntime,
+        tally: &mut Tally,
+        call: Call,
+    ) -> io::Result<(Current, bool)> {
         match call {
-            Call::Open { entries, folded, writer, source } => {
+            Call::Open {
+                entries,
+                folded,
+                writer,
+                source,
+            } => {
                 match open(rt, tally, entries, folded, writer, &source)? {
                     Current::None => Ok((self, true)),
                     tree => Ok((tree, true)),

@@ -11,7 +11,7 @@ pub struct Tally {
 }
 
 impl Tally {
-    pub fn new() -> Tally {
+    pub(crate) fn new() -> Tally {
         Tally {
             trees: 0,
             nodes: 0,
@@ -20,7 +20,7 @@ impl Tally {
         }
     }
 
-    pub fn refuse(&mut self, number: u8) {
+    pub(crate) fn refuse(&mut self, number: u8) {
         let i = number as usize;
         if i < 12 {
             self.refusals[i] = self.refusals[i].saturating_add(1);

@@ -21,7 +21,7 @@ pub enum Recording {
 }
 
 impl Recording {
-    pub fn file(self) -> &'static str {
+    pub(crate) fn file(self) -> &'static str {
         match self {
             Recording::RawParts => "raw.txt",
             Recording::Words => "words.txt",
@@ -29,7 +29,7 @@ impl Recording {
         }
     }
 
-    pub fn subject(self) -> &'static str {
+    pub(crate) fn subject(self) -> &'static str {
         match self {
             Recording::RawParts => "raw parts",
             Recording::Words => "words",
@@ -38,7 +38,7 @@ impl Recording {
     }
 
     // Asks again what a row records the answer to.
-    pub fn check(self, heap: Global, row: &str) -> Result<(), Fault> {
+    pub(crate) fn check(self, heap: Global, row: &str) -> Result<(), Fault> {
         match (self, fields(heap, row)?.as_slice()) {
             (Recording::RawParts, ["raw", raw, "ok", cooked]) => {
                 check_raw_part(heap, &text(heap, raw)?, Some(text(heap, cooked)?))

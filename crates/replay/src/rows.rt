@@ -12,7 +12,7 @@ use crate::fault::*;
 use std::alloc::Global;
 
 // The fields of a row, none of them empty.
-pub fn fields(heap: Global, row: &str) -> Result<Vec<&str>, Fault> {
+pub(crate) fn fields(heap: Global, row: &str) -> Result<Vec<&str>, Fault> {
     let fields: Vec<&str> = row.split(' ').collect(heap)?;
     if fields.contains(&"") {
         return Err(Fault::Malformed);
@@ -53,7 +53,7 @@ fn unit(digits: &[u8]) -> Result<u16, Fault>
 }
 
 // The bytes of a field, two digits each.
-pub fn bytes(heap: Global, field: &str) -> Result<Vec<u8>, Fault>
+pub(crate) fn bytes(heap: Global, field: &str) -> Result<Vec<u8>, Fault>
     ensures { λ r. ⌜ made r (λ v. spelled pair (vec-items v) ≡ now (field .entry)) ⌝ }
 {
     let mut bytes = Vec::new(heap);
@@ -75,7 +75,7 @@ fn units(heap: Global, field: &str) -> Result<Vec<u16>, Fault>
 }
 
 // The text of a field: its units, or `-` for none.
-pub fn text(heap: Global, field: &str) -> Result<Vec<u16>, Fault>
+pub(crate) fn text(heap: Global, field: &str) -> Result<Vec<u16>, Fault>
     ensures { λ r. ⌜ made r (λ v. ((now (field .entry) ≡ codes "-") × (vec-items v ≡ [])) ⊎ (spelled quad (vec-items v) ≡ now (field .entry))) ⌝ }
 {
     if field == "-" {
@@ -85,7 +85,7 @@ pub fn text(heap: Global, field: &str) -> Result<Vec<u16>, Fault>
 }
 
 // The units of a word, which is ASCII.
-pub fn word(heap: Global, field: &str) -> Result<Vec<u16>, Fault>
+pub(crate) fn word(heap: Global, field: &str) -> Result<Vec<u16>, Fault>
     ensures { λ r. ⌜ made r (λ v. vec-items v ≡ now (field .entry)) ⌝ }
 {
     let mut units = Vec::new(heap);

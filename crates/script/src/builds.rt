@@ -151,7 +151,7 @@ fn leaf(words: &mut Words<'_>, name: &str) -> Result<Option<ShapeWord>, Expected
 }
 
 // The call that builds a node, from after the word `build`.
-pub fn build_call(heap: Global, words: &mut Words<'_>) -> Result<Call, Fault>
+pub(crate) fn build_call(heap: Global, words: &mut Words<'_>) -> Result<Call, Fault>
     ensures { λ r. ⌜ made r Filled ⌝ }
 {
     let name = words.field(Expected::Shape)?;

@@ -6,7 +6,7 @@ ghost use Rattle.script.specs.Numbers.{integerTo};
 use crate::expected::Expected;
 
 // A decimal integer; one past the largest `usize` counts as that.
-pub fn integer(word: &str) -> Result<usize, Expected>
+pub(crate) fn integer(word: &str) -> Result<usize, Expected>
     ensures { λ r. ⌜ okPart r ≡ integerTo (2 ^ 64 - 1) (now (word .entry)) ⌝ }
 {
     if word.is_empty() {
@@ -26,21 +26,21 @@ pub fn integer(word: &str) -> Result<usize, Expected>
 }
 
 // A node's number. There is no node of the number `u16::MAX`.
-pub fn node(word: &str) -> Result<u16, Expected>
+pub(crate) fn node(word: &str) -> Result<u16, Expected>
     ensures { λ r. ⌜ okPart r ≡ integerTo (2 ^ 16 - 1) (now (word .entry)) ⌝ }
 {
     Ok(integer(word)?.min(0xffff) as u16)
 }
 
 // A number of 16-bit units.
-pub fn extent(word: &str) -> Result<u32, Expected>
+pub(crate) fn extent(word: &str) -> Result<u32, Expected>
     ensures { λ r. ⌜ okPart r ≡ integerTo (2 ^ 32 - 1) (now (word .entry)) ⌝ }
 {
     Ok(integer(word)?.min(0xffff_ffff) as u32)
 }
 
 // A decimal number with fraction and exponent, or one of the three that JavaScript gives a name.
-pub fn number(word: &str) -> Result<f64, Expected> {
+pub(crate) fn number(word: &str) -> Result<f64, Expected> {
     match word {
         "NaN" => Ok(f64::NAN),
         "Infinity" => Ok(f64::INFINITY),

@@ -4,7 +4,7 @@ ghost use Rattle.script.specs.Words.{UnaryWord, BinaryWord, Found};
 use syntax::operators::BinaryOperator;
 use syntax::operators::UnaryOperator;
 
-pub fn unary_operator(word: &str) -> Option<UnaryOperator>
+pub(crate) fn unary_operator(word: &str) -> Option<UnaryOperator>
     ensures { λ r. ⌜ Found UnaryWord (now (word .entry)) r ⌝ }
 {
     let operator = match word {
@@ -20,7 +20,7 @@ pub fn unary_operator(word: &str) -> Option<UnaryOperator>
     Some(operator)
 }
 
-pub fn binary_operator(word: &str) -> Option<BinaryOperator>
+pub(crate) fn binary_operator(word: &str) -> Option<BinaryOperator>
     ensures { λ r. ⌜ Found BinaryWord (now (word .entry)) r ⌝ }
 {
     let operator = match word {

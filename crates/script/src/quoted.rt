@@ -30,7 +30,7 @@ fn push_char(units: &mut Vec<u16>, c: char) -> Result<(), Fault>
     Ok(())
 }
 
-pub fn bare(heap: Global, word: &str) -> Result<Vec<u16>, Fault>
+pub(crate) fn bare(heap: Global, word: &str) -> Result<Vec<u16>, Fault>
     ensures { λ r. ⌜ made r (λ v. Spelt (now (word .entry)) (vec-items v)) ⌝ }
 {
     let mut units = Vec::new(heap);
@@ -85,7 +85,7 @@ fn escape(chars: &mut Chars<'_>) -> Option<u16>
 }
 
 // The units of a JSON string, from after its opening quote to its closing one.
-pub fn quoted(heap: Global, chars: &mut Chars<'_>) -> Result<Vec<u16>, Fault>
+pub(crate) fn quoted(heap: Global, chars: &mut Chars<'_>) -> Result<Vec<u16>, Fault>
     ensures { λ r. ⌜ made r (λ v. Json (chars-rest (now (chars .entry))) (vec-items v) (chars-rest (now (chars .exit)))) ⌝ }
 {
     let mut units = Vec::new(heap);

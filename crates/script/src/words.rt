@@ -36,14 +36,14 @@ pub struct Words<'a> {
 }
 
 impl<'a> Words<'a> {
-    pub fn new(line: &'a str) -> Words<'a>
+    pub(crate) fn new(line: &'a str) -> Words<'a>
         ensures { λ r. ⌜ now (r .rest) ≡ now (line .entry) ⌝ }
     {
         Words { rest: line }
     }
 
     // The next word; none where the line ends or a comment begins.
-    pub fn word(&mut self) -> Option<&'a str>
+    pub(crate) fn word(&mut self) -> Option<&'a str>
         ensures value { λ r. ⌜ mapped now r ≡ firstWord (now (now (self .entry) .rest)) ⌝ }
         ensures after { λ _. ⌜ now (now (self .exit) .rest) ≡ afterFirst (now (now (self .entry) .rest)) ⌝ }
         ensures shorter { λ r. ⌜ BySome r (Unit {0}) (λ _. length (now (now (self .exit) .rest)) < length (now (now (self .entry) .rest))) ⌝ }
@@ -65,7 +65,7 @@ impl<'a> Words<'a> {
     }
 
     // The word that has to stand next.
-    pub fn field(&mut self, expected: Expected) -> Result<&'a str, Expected>
+    pub(crate) fn field(&mut self, expected: Expected) -> Result<&'a str, Expected>
         ensures value { λ r. ⌜ mapped now (okPart r) ≡ firstWord (now (now (self .entry) .rest)) ⌝ }
         ensures after { λ _. ⌜ now (now (self .exit) .rest) ≡ afterFirst (now (now (self .entry) .rest)) ⌝ }
         ensures shorter { λ _. ⌜ length (now (now (self .exit) .rest)) ≤ length (now (now (self .entry) .rest)) ⌝ }
@@ -73,7 +73,7 @@ impl<'a> Words<'a> {
         self.word().ok_or(expected)
     }
 
-    pub fn place(&mut self) -> Result<Place, Expected>
+    pub(crate) fn place(&mut self) -> Result<Place, Expected>
         ensures { λ _. ⌜ length (now (now (self .exit) .rest)) ≤ length (now (now (self .entry) .rest)) ⌝ }
     {
         let start = extent(self.field(Expected::Extent)?)?;
@@ -81,7 +81,7 @@ impl<'a> Words<'a> {
         Ok(Place { start, len })
     }
 
-    pub fn boolean(&mut self) -> Result<bool, Expected> {
+    pub(crate) fn boolean(&mut self) -> Result<bool, Expected> {
         match self.word() {
             Some("true") => Ok(true),
             Some("false") => Ok(false),
@@ -90,7 +90,7 @@ impl<'a> Words<'a> {
     }
 
     // Takes the mark `optional`, if it is next.
-    pub fn optional(&mut self) -> bool {
+    pub(crate) fn optional(&mut self) -> bool {
         let before = self.rest;
         if let Some("optional") = self.word() {
             return true;
@@ -100,7 +100,7 @@ impl<'a> Words<'a> {
     }
 
     // A JSON string, if one is next.
-    pub fn string(&mut self, heap: Global) -> Result<Option<Vec<u16>>, Fault> {
+    pub(crate) fn string(&mut self, heap: Global) -> Result<Option<Vec<u16>>, Fault> {
         let text = unspaced_text(self.rest);
         let Some(inside) = text.strip_prefix('"') else {
             return Ok(None);
@@ -116,7 +116,7 @@ impl<'a> Words<'a> {
     }
 
     // A name's text: a JSON string or a bare word.
-    pub fn text(&mut self, heap: Global) -> Result<Vec<u16>, Fault> {
+    pub(crate) fn text(&mut self, heap: Global) -> Result<Vec<u16>, Fault> {
         if let Some(units) = self.string(heap)? {
             return Ok(units);
         }

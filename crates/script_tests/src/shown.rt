@@ -102,7 +102,7 @@ fn call_text(heap: Global, call: &Call) -> Result<String, AllocError> {
     }
 }
 
-pub fn line_text(heap: Global, line: &str) -> Result<String, AllocError> {
+pub(crate) fn line_text(heap: Global, line: &str) -> Result<String, AllocError> {
     match parse(heap, line)? {
         Line::Blank => format!(heap, "blank"),
         Line::Call(call) => call_text(heap, &call),

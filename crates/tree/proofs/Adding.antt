@@ -61,40 +61,50 @@ module _ (written : Bool) (a : State) (sh : Shape) (ps : List Part) (k : Keeps a
   fitting n lt =
       ⊎-elim
       (λ (e : n ≡ a .used).
-        rw (e, new-at (a .entries) (a .used) (kindOf sh ps) (tallest (a .entries) ps + 4) ps (k .0) (ok .1 .0) (ok .5))
-        (and-from (kindFits (length (a .texts .names)) (length (a .texts .source)) (length (a .texts .folded)) (kindOf sh ps)) (isWithin noSpan (length (a .texts .source)) (length (a .texts .folded)))
-          (kind-fits written a sh ps (ok .1 .1) (ok .2 .1)) (le-leb 0 (length (a .texts .source)) (omega arith))))
+      rw (e, new-at (a .entries) (a .used) (kindOf sh ps) (tallest (a .entries) ps + 4) ps (k .0) (ok .1 .0) (ok .5))
+      (and-from (kindFits (length (a .texts .names)) (length (a .texts .source)) (length (a .texts .folded)) (kindOf sh ps)) (isWithin noSpan (length (a .texts .source)) (length (a .texts .folded)))
+      (kind-fits written a sh ps (ok .1 .1) (ok .2 .1)) (le-leb 0 (length (a .texts .source)) (omega arith))))
       (λ (ne : n ≡ a .used → ⊥).
-        let lo : n < a .used = omega arith in
-        let w = and-parts (kindFits (length (a .texts .names)) (length (a .texts .source)) (length (a .texts .folded)) (at (a .entries) n .kind)) (isWithin (at (a .entries) n .after) (length (a .texts .source)) (length (a .texts .folded))) (k .1 .1 .1 .0 n lo) in
-        and-from (kindFits (length (a .texts .names)) (length (a .texts .source)) (length (a .texts .folded)) (at fs n .kind)) (isWithin (at fs n .after) (length (a .texts .source)) (length (a .texts .folded)))
-        (rw (old-kind (a .entries) (a .used) (kindOf sh ps) (tallest (a .entries) ps + 4) ps (k .0) (ok .1 .0) (ok .5) n lo) (w .0))
-        (old-after (a .entries) (a .used) (kindOf sh ps) (tallest (a .entries) ps + 4) ps (k .0) (ok .1 .0) (ok .5) (λ s. isWithin s (length (a .texts .source)) (length (a .texts .folded)) ≡ true) (afters a ps (ok .2 .2)) n lo (w .1)))
+      let lo : n < a .used = omega arith in
+      let w = and-parts (kindFits (length (a .texts .names)) (length (a .texts .source)) (length (a .texts .folded)) (at (a .entries) n .kind)) (isWithin (at (a .entries) n .after) (length (a .texts .source)) (length (a .texts .folded))) (k .1 .1 .1 .0 n lo) in
+      and-from (kindFits (length (a .texts .names)) (length (a .texts .source)) (length (a .texts .folded)) (at fs n .kind)) (isWithin (at fs n .after) (length (a .texts .source)) (length (a .texts .folded)))
+      (rw (old-kind (a .entries) (a .used) (kindOf sh ps) (tallest (a .entries) ps + 4) ps (k .0) (ok .1 .0) (ok .5) n lo) (w .0))
+      (old-after (a .entries) (a .used) (kindOf sh ps) (tallest (a .entries) ps + 4) ps (k .0) (ok .1 .0) (ok .5) (λ s. isWithin s (length (a .texts .source)) (length (a .texts .folded)) ≡ true) (afters a ps (ok .2 .2)) n lo (w .1)))
       (cases-eq n (a .used))
 
   keeps : Keeps a fs (a .used + 1)
-  keeps =
-      (new-sound (a .texts) (a .entries) (a .used) sh ps (k .0) (ok .1 .0) (ok .2 .0) (ok .5),
-      (new-held (a .texts) (a .entries) (a .used) sh ps (k .0) (ok .1 .0) (ok .2 .0) (ok .5) (k .1 .0),
-      (new-single (a .texts) (a .entries) (a .used) sh ps (k .0) (ok .1 .0) (ok .2 .0) (ok .5) (k .1 .1 .0),
-      (fitting,
-      ((λ r. new-levels (a .texts) (a .entries) (a .used) sh ps (k .0) (ok .1 .0) (ok .2 .0) (ok .5) (k .1 .1 .1 .1 .0 r)),
-      (λ n r. let w = k .1 .1 .1 .1 .1 n r in omega arith))))))
+  keeps = (
+    new-sound (a .texts) (a .entries) (a .used) sh ps (k .0) (ok .1 .0) (ok .2 .0) (ok .5),
+    (
+      new-held (a .texts) (a .entries) (a .used) sh ps (k .0) (ok .1 .0) (ok .2 .0) (ok .5) (k .1 .0),
+      (
+        new-single (a .texts) (a .entries) (a .used) sh ps (k .0) (ok .1 .0) (ok .2 .0) (ok .5) (k .1 .1 .0),
+        (
+          fitting,
+          (
+            (λ r. new-levels (a .texts) (a .entries) (a .used) sh ps (k .0) (ok .1 .0) (ok .2 .0) (ok .5) (k .1 .1 .1 .1 .0 r)),
+            (λ n r. let w = k .1 .1 .1 .1 .1 n r in omega arith),
+          ),
+        ),
+      ),
+    ),
+  )
 
   says : Built written a sh ps (a .used) (with-entries a fs)
   says = record {
-      asked = ok;
-      number = refl;
-      used = omega arith;
-      stands = new-stands (a .texts) (a .entries) (a .used) sh ps (k .0) (ok .1 .0) (ok .2 .0) (ok .5);
-      others = new-others (a .texts) (a .entries) (a .used) sh ps (k .0) (ok .1 .0) (ok .2 .0) (ok .5);
-      top = ap (λ (y : Entry). y .parent) (new-at (a .entries) (a .used) (kindOf sh ps) (tallest (a .entries) ps + 4) ps (k .0) (ok .1 .0) (ok .5));
-      parents = old-parents (a .entries) (a .used) (kindOf sh ps) (tallest (a .entries) ps + 4) ps (k .0) (ok .1 .0) (ok .5);
-      capacity = length-new (a .entries) (a .used) (kindOf sh ps) (tallest (a .entries) ps + 4) ps (k .0) (ok .1 .0) (ok .5);
-      texts = refl;
-      classes = refl;
-      root = refl;
-      room = refl }
+    asked = ok;
+    number = refl;
+    used = omega arith;
+    stands = new-stands (a .texts) (a .entries) (a .used) sh ps (k .0) (ok .1 .0) (ok .2 .0) (ok .5);
+    others = new-others (a .texts) (a .entries) (a .used) sh ps (k .0) (ok .1 .0) (ok .2 .0) (ok .5);
+    top = ap (λ (y : Entry). y .parent) (new-at (a .entries) (a .used) (kindOf sh ps) (tallest (a .entries) ps + 4) ps (k .0) (ok .1 .0) (ok .5));
+    parents = old-parents (a .entries) (a .used) (kindOf sh ps) (tallest (a .entries) ps + 4) ps (k .0) (ok .1 .0) (ok .5);
+    capacity = length-new (a .entries) (a .used) (kindOf sh ps) (tallest (a .entries) ps + 4) ps (k .0) (ok .1 .0) (ok .5);
+    texts = refl;
+    classes = refl;
+    root = refl;
+    room = refl;
+  }
 
   -- the same of what a Vec holds after its slice was lent and came back as `last`
   pub added : (lent last items : List Entry) (len h : ℕ) (kd : Kind) → lent ≡ a .entries → kd ≡ kindOf sh ps → h ≡ tallest (a .entries) ps → last ≡ withNode lent (a .used) kd (h + 4) ps → length last ≡ len

@@ -100,7 +100,19 @@ pub named : (a : State) (x : List ℕ) (c : Class) (i : ℕ) (ns : List (List �
 named a x c i ns cs k ok e f g =
     let so = length (a .texts .source) in
     let fo = length (a .texts .folded) in
-    rw (f, g)
-    ((k .0, (k .1 .0, (k .1 .1 .0, (named-fitting (a .texts) x (a .entries) (a .used) so fo (k .0) (k .1 .1 .1 .0), (named-levelled (a .texts) x (a .entries) (a .used) so fo (k .0) (k .1 .1 .1 .0) (a .root) (k .1 .1 .1 .1 .0), k .1 .1 .1 .1 .1))))),
-    record { asked = ok; number = e; names = refl; classes = refl; source = refl; folded = refl; entries = refl; used = refl; root = refl; room = refl;
-      others = named-others (a .texts) x (a .entries) (a .used) so fo (k .0) (k .1 .1 .1 .0) })
+    rw (f, g) (
+      (k .0, (k .1 .0, (k .1 .1 .0, (named-fitting (a .texts) x (a .entries) (a .used) so fo (k .0) (k .1 .1 .1 .0), (named-levelled (a .texts) x (a .entries) (a .used) so fo (k .0) (k .1 .1 .1 .0) (a .root) (k .1 .1 .1 .1 .0), k .1 .1 .1 .1 .1))))),
+      record {
+        asked = ok;
+        number = e;
+        names = refl;
+        classes = refl;
+        source = refl;
+        folded = refl;
+        entries = refl;
+        used = refl;
+        root = refl;
+        room = refl;
+        others = named-others (a .texts) x (a .entries) (a .used) so fo (k .0) (k .1 .1 .1 .0);
+      },
+    )

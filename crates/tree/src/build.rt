@@ -74,7 +74,8 @@ impl Store {
             Shape::Number(_) => written,
             Shape::String(span) => self.in_source(span),
             Shape::Template(span) => self.is_raw(span),
-            Shape::Member { name, .. } => self.in_source(name) && is_identifier(part(&self.source, &self.folded, name)),
+            Shape::Member { name, .. } => self.in_source(name)
+                && is_identifier(part(&self.source, &self.folded, name)),
             _ => true,
         }
     }
@@ -112,7 +113,12 @@ impl Store {
     }
 
     // A new node over nodes that have no parent yet; it has the next number.
-    pub(crate) fn build(&mut self, shape: Shape, parts: &[Part], written: bool) -> Result<u16, Refusal>
+    pub(crate) fn build(
+        &mut self,
+        shape: Shape,
+        parts: &[Part],
+        written: bool,
+    ) -> Result<u16, Refusal>
         ensures { λ r. ⌜ Cases r (λ n. Built written (stateOf (now (self .entry))) shape (now (parts .entry)) n (stateOf (now (self .exit)))) (λ e. BuildRefused written (stateOf (now (self .entry))) shape (now (parts .entry)) e × (stateOf (now (self .exit)) ≡ stateOf (now (self .entry)))) ⌝ }
     {
         let below = match self.admit(shape, parts, written) {

@@ -17,7 +17,13 @@ use writer::writes;
 
 impl<W: NumberWriter + Drop> Tree<W> {
     // A tree with places for so many nodes and so much folded text, over a copy of the source text.
-    pub fn open(heap: Global, entries: usize, folded: usize, source: &[u16], writer: W) -> Result<Tree<W>, OpenError>
+    pub fn open(
+        heap: Global,
+        entries: usize,
+        folded: usize,
+        source: &[u16],
+        writer: W,
+    ) -> Result<Tree<W>, OpenError>
         ensures { λ r. ⌜ Cases r (λ t. Opened entries folded (now (source .entry)) (treeState t)) (λ e. OpenRefused entries folded (now (source .entry)) e) ⌝ }
     {
         match Store::open(heap, entries, folded, source) {

@@ -53,7 +53,10 @@ impl Store {
         ensures { λ r. ⌜ r ≡ marksFit shape (partsOf (stateOf (now (self .entry))) (now (parts .entry))) ⌝ }
     {
         match shape {
-            Shape::Member { .. } | Shape::Index { .. } | Shape::Call { .. } => self.are_unmarked(parts, 1),
+            Shape::Member { .. } | Shape::Index { .. } | Shape::Call { .. } => self.are_unmarked(
+                parts,
+                1,
+            ),
             Shape::Chain => !parts.is_empty() && self.is_marked(parts[0].node),
             _ => self.are_unmarked(parts, 0),
         }

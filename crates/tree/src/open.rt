@@ -11,7 +11,9 @@ use units::span::Span;
 use units::span::Text;
 
 const MIN_ENTRIES: usize = 16;
+
 const MAX_ENTRIES: usize = 4096;
+
 const MAX_UNITS: usize = 65536;
 
 const BLANK: Entry = Entry {
@@ -28,10 +30,19 @@ const BLANK: Entry = Entry {
 
 impl Store {
     // A tree with places for so many nodes and so much folded text, over a copy of the source text.
-    pub(crate) fn open(heap: Global, entries: usize, folded: usize, source: &[u16]) -> Result<Store, OpenError>
+    pub(crate) fn open(
+        heap: Global,
+        entries: usize,
+        folded: usize,
+        source: &[u16],
+    ) -> Result<Store, OpenError>
         ensures { λ r. ⌜ Cases r (λ s. Opened entries folded (now (source .entry)) (stateOf s)) (λ e. OpenRefused entries folded (now (source .entry)) e) ⌝ }
     {
-        if entries < MIN_ENTRIES || entries > MAX_ENTRIES || folded > MAX_UNITS || source.len() > MAX_UNITS {
+        if entries < MIN_ENTRIES
+            || entries > MAX_ENTRIES
+            || folded > MAX_UNITS
+            || source.len() > MAX_UNITS
+        {
             return Err(OpenError::OutsideLimits);
         }
         let Ok(nodes) = Vec::from_elem(heap, BLANK, entries) else {
@@ -43,16 +54,14 @@ impl Store {
         let Ok(space) = Vec::with_capacity(heap, folded) else {
             return Err(OpenError::NoMemory);
         };
-        Ok(
-            Store {
-                entries: nodes,
-                used: 0,
-                names: Names::new(),
-                source: text,
-                folded: space,
-                room: folded,
-                root: None,
-            },
-        )
+        Ok(Store {
+            entries: nodes,
+            used: 0,
+            names: Names::new(),
+            source: text,
+            folded: space,
+            room: folded,
+            root: None,
+        })
     }
 }

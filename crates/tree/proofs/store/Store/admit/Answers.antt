@@ -16,11 +16,14 @@ use Rattle.tree.proofs.store.Store.admit.Needs.{Else-not-is-good, After-talles
 
 -- what has passed when the marks are looked at
 passed : (c : need.Else-not-is-good) → (c .args .self .now .root ≡ None) × Found (stateOf (c .args .self .now)) (c .args .shape) (c .args .parts .now) × Good (c .args .written) (stateOf (c .args .self .now)) (c .args .shape) (c .args .parts .now)
-passed c =
-    (unrooted (c .args .self .now .root) (c .is-some .result) (c .is-some .ensures) (c .if-is-some .left),
-    (ap (λ (es : List Entry). free es (c .args .self .now .used) (c .args .parts .now)) (sym (c .deref .ensures .value)) ∙ sym (c .are-free .ensures) ∙ c .if-not-are-free .left,
-     sym (c .name-listed .ensures) ∙ c .if-not-name-listed .left),
-    c .if-not-is-good .ensures tt)
+passed c = (
+  unrooted (c .args .self .now .root) (c .is-some .result) (c .is-some .ensures) (c .if-is-some .left),
+  (
+    ap (λ (es : List Entry). free es (c .args .self .now .used) (c .args .parts .now)) (sym (c .deref .ensures .value)) ∙ sym (c .are-free .ensures) ∙ c .if-not-are-free .left,
+    sym (c .name-listed .ensures) ∙ c .if-not-name-listed .left,
+  ),
+  c .if-not-is-good .ensures tt,
+)
 
 pub marks-fit-requires : need.marks-fit-requires
 marks-fit-requires c κs = nodes-low (vec-items (c .args .self .now .entries)) (c .args .self .now .used) (c .args .parts .now) (passed c .1 .0)
