@@ -1,4 +1,5 @@
 // Replays what a JavaScript engine answered, and stops at the first row that is answered otherwise.
+mod checks;
 mod fault;
 mod recording;
 mod rows;
@@ -30,13 +31,12 @@ fn replay(rt: &LibcRuntime, recording: Recording) -> Result<(), AnyError> {
         if let Err(fault) = recording.check(rt.alloc(), line) {
             let number = above + 1;
             eprintln!(rt, "{file}, line {number}: {fault}")?;
-            return Err("a row is not as recorded".into());
+            return Err("not replayed to the end".into());
         }
         rows += 1;
     }
     if rows == 0 {
-        eprintln!(rt, "{file}: no rows")?;
-        return Err("a file has no rows".into());
+        return Err(format!(rt.alloc(), "{file}: no rows")?.into());
     }
     let subject = recording.subject();
     println!(rt, "{subject}: {rows} rows, all as recorded")?;

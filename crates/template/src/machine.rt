@@ -194,7 +194,7 @@ fn braced(value: u32, unit: u16) -> Step
     }
 }
 
-pub fn advance(state: State, unit: u16) -> Step
+pub(crate) fn advance(state: State, unit: u16) -> Step
     ensures { λ r. ⌜ r ≡ stepped state unit ⌝ }
 {
     match (state, unit) {
@@ -223,7 +223,7 @@ pub fn advance(state: State, unit: u16) -> Step
 }
 
 // Whether a text that leads to this state may end there.
-pub fn may_end(state: State) -> bool
+pub(crate) fn may_end(state: State) -> bool
     ensures { λ r. ⌜ r ≡ mayEnd state ⌝ }
 {
     match state {
