@@ -1,4 +1,2 @@
-pub mod Words
-pub mod Examples
 pub mod Table
 pub mod Listings

@@ -1,3 +1,1 @@
-pub mod reserved;
 pub mod table;
-pub mod text;

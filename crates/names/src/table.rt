@@ -6,7 +6,7 @@ ghost use mathlib.Core.List.{[]};
 ghost use mathlib.Core.Path.{_≡_};
 ghost use Rattle.std.specs.shelf.Maps.{nth};
 ghost use Rattle.names.specs.Table.{textOf, listed as listedIn, texts, classes, FirstAt, Added, constantValue};
-use crate::text::MAX_UNITS;
+use words::text::MAX_UNITS;
 use units::span::Span;
 use units::span::Text;
 

@@ -20,10 +20,10 @@ use Rattle.nodes.specs.Meaning.{Texts, at, linksOf, kidsOf, mean, unaryBy, bina
 use Rattle.nodes.proofs.Laws.{unfold-expr, under}
 use Rattle.nodes.proofs.Members.{In}
 use Rattle.printer.specs.declared.view.View.{View}
-use Rattle.printer.specs.declared.parens.Shape.the-variants.{Closed}
-use Rattle.printer.specs.Form.{spell}
-use Rattle.printer.specs.Parens.{shape}
-use Rattle.printer.specs.Show.{prefixed, space}
+use Rattle.forms.specs.declared.parens.Shape.the-variants.{Closed}
+use Rattle.forms.specs.Form.{spell}
+use Rattle.forms.specs.Parens.{shape}
+use Rattle.forms.specs.Show.{prefixed, space}
 use Rattle.printer.specs.Views.{textsOf, exprIn, WellFormed}
 
 -- the node n is of the kind k: what it stands for, and that its parts are in use and lower

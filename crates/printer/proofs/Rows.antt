@@ -16,10 +16,10 @@ use Rattle.syntax.specs.Expr.{Expr, Exprs}
 use Rattle.nodes.specs.declared.kind.Entry.{Entry}
 use Rattle.nodes.specs.Meaning.{Texts, unitsOf, at, links, nums, exprsOf, partsOf}
 use Rattle.nodes.proofs.Members.{In}
-use Rattle.printer.specs.declared.parens.Place.{Place}
-use Rattle.printer.specs.declared.parens.Place.the-variants.{Argument}
-use Rattle.printer.specs.Printed.{printed, printedAt, printedArguments, printedFurther, printedParts}
-use Rattle.printer.proofs.Bytes.{printed-arguments, printed-further, printed-parts}
+use Rattle.forms.specs.declared.parens.Place.{Place}
+use Rattle.forms.specs.declared.parens.Place.the-variants.{Argument}
+use Rattle.forms.specs.Printed.{printed, printedAt, printedArguments, printedFurther, printedParts}
+use Rattle.forms.proofs.Bytes.{printed-arguments, printed-further, printed-parts}
 
 -- ---- above the height of each of these nodes
 

@@ -18,8 +18,8 @@ use Rattle.std.specs.declared.option.Option.the-variants.{Some, None}
 use Rattle.writer.specs.Literal.{allDigits, readOn, decimalDigits, decimalInteger, beforeE, afterE, exponent, scaled, literal}
 use Rattle.writer.specs.Writers.{Exact, Wrote}
 use Rattle.writer.specs.declared.number_writer.NumberText.{NumberText}
-use Rattle.printer.specs.Numerals.{Gives}
-use Rattle.printer.specs.Show.{written}
+use Rattle.forms.specs.Numerals.{Gives}
+use Rattle.forms.specs.Show.{written}
 
 never : {X : Type 0} (n : ℕ) → _≡_ {A = Option ℕ} None (Some n) → X
 never n p = let z : _≡_ {A = ℕ} 0 1 = cc in absurd (omega arith)

@@ -1,9 +1,2 @@
-pub mod Form
-pub mod Parens
-pub mod Quoted
-pub mod Show
-pub mod Printed
-pub mod Numerals
 pub mod Views
 pub mod Fitted
-pub mod Examples

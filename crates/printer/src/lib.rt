@@ -1,9 +1,6 @@
-pub mod examples;
+mod number;
 pub mod node;
-pub mod numeral;
-pub mod parens;
 pub mod print;
-pub mod quote;
 mod read;
 mod sign;
 pub mod view;

@@ -1,8 +1,8 @@
 ghost use Prim.Native.Nat.{_<_};
 ghost use Rattle.printer.specs.Fitted.{Fitted};
-ghost use Rattle.printer.specs.Printed.{printed};
+ghost use Rattle.forms.specs.Printed.{printed};
 ghost use Rattle.printer.specs.Views.{exprIn, WellFormed};
-use crate::parens::Place;
+use forms::parens::Place;
 use crate::view::View;
 use units::sink::Sink;
 use writer::NumberWriter;

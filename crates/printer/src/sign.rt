@@ -1,7 +1,7 @@
 ghost use mathlib.Core.Path.{_≡_};
 ghost use Rattle.std.specs.Options.{mapped};
 ghost use Rattle.syntax.specs.Operators.{unaryOf, binaryOf, binText};
-ghost use Rattle.printer.specs.Show.{prefixed, truth as Truth, dot as Dot, mark as Mark};
+ghost use Rattle.forms.specs.Show.{prefixed, truth as Truth, dot as Dot, mark as Mark};
 use syntax::operators::BinaryOperator;
 use syntax::operators::UnaryOperator;
 

@@ -16,14 +16,14 @@ use Rattle.template.specs.Raw.{Raw}
 use Rattle.names.specs.declared.table.Class.{Class}
 use Rattle.names.specs.declared.table.Class.the-variants as C
 use Rattle.names.specs.Table.{constantValue, inSource}
-use Rattle.names.specs.Words.{identifier, name}
+use Rattle.words.specs.Words.{identifier, name}
 use Rattle.syntax.specs.Expr.{Expr, marked}
 use Rattle.nodes.specs.declared.shape.Part.{Part}
 use Rattle.nodes.specs.declared.shape.Shape.{Shape}
 use Rattle.nodes.specs.declared.shape.Shape.the-variants as S
 use Rattle.nodes.specs.Meaning.{Texts, unitsOf, at, has}
 use Rattle.nodes.specs.Made.{given, made, countFits, marksFit, deepest, nodes, loose, free}
-use Rattle.printer.specs.Printed.{printed}
+use Rattle.forms.specs.Printed.{printed}
 use Rattle.tree.specs.declared.refusal.Refusal.{Refusal}
 use Rattle.tree.specs.declared.refusal.Refusal.the-variants as R
 use Rattle.tree.specs.declared.refusal.OpenError.{OpenError}

@@ -10,7 +10,7 @@ ghost use Rattle.tree.specs.Calls.{Not, nameListed, InSource, RawPart, RawPart
 ghost use Rattle.tree.specs.Of.{stateOf};
 use crate::refusal::Refusal;
 use crate::store::Store;
-use names::text::is_identifier;
+use words::text::is_identifier;
 use nodes::check::are_free;
 use nodes::check::tallest;
 use nodes::count::count_fits;

@@ -6,7 +6,7 @@ use crate::refusal::Refusal;
 use crate::store::Store;
 use names::table::Class;
 use names::table::is_constant_value;
-use names::text::is_name;
+use words::text::is_name;
 
 impl Store {
     fn class_fits(&self, class: Class) -> bool

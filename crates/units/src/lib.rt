@@ -1,4 +1,3 @@
 pub mod code_point;
 pub mod sink;
 pub mod span;
-pub mod stack;

@@ -97,12 +97,3 @@ fn continuation(bits: u32) -> u8
 {
     (0x80 + bits % 0x40) as u8
 }
-
-// Puts `text` into `out` as far as it fits, and answers its length.
-pub fn put_all(out: &mut [u8], text: &[u8]) -> usize
-    ensures { λ r. ⌜ (now (out .exit), r) ≡ put (now (out .entry), 0) (now (text .entry)) ⌝ }
-{
-    let mut sink = Sink::over(out);
-    sink.bytes(text);
-    sink.len()
-}

@@ -15,13 +15,13 @@ use Rattle.syntax.specs.Expr.{Expr}
 use Rattle.syntax.specs.Operators.{unaryOf, binaryOf, binText}
 use Rattle.nodes.specs.Meaning.{unitsOf, at, links, nums, rowOf, exprsOf, partsOf}
 use Rattle.nodes.proofs.Members.{In, in-has, has-in}
-use Rattle.printer.specs.declared.parens.Place.the-variants.{Bare, Argument, Operand, Object}
-use Rattle.printer.specs.Parens.{inParens}
-use Rattle.printer.specs.Quoted.{quoted}
-use Rattle.printer.specs.Show.{dot, mark}
-use Rattle.printer.specs.Printed.{printed, printedAt, printedArguments, printedFurther, printedParts}
+use Rattle.forms.specs.declared.parens.Place.the-variants.{Bare, Argument, Operand, Object}
+use Rattle.forms.specs.Parens.{inParens}
+use Rattle.forms.specs.Quoted.{quoted}
+use Rattle.forms.specs.Show.{dot, mark}
+use Rattle.forms.specs.Printed.{printed, printedAt, printedArguments, printedFurther, printedParts}
 use Rattle.printer.specs.Views.{textsOf, exprIn, partsIn}
-use Rattle.printer.proofs.Bytes.{printed-parens, printed-boolean, printed-null, printed-array, printed-unary, printed-binary, printed-template, printed-member, printed-index, printed-call, printed-sequence}
+use Rattle.forms.proofs.Bytes.{printed-parens, printed-boolean, printed-null, printed-array, printed-unary, printed-binary, printed-template, printed-member, printed-index, printed-call, printed-sequence}
 use Rattle.printer.proofs.Reading.{read, unary-none, unary-some, binary-none, binary-some}
 use Rattle.printer.proofs.Rows.{above, above-each, above-least, above-some, part-here, parts-next, further-next, substitution-next, rest-in, first-in, arguments-some, arguments-none}
 use Rattle.printer.proofs.view.View.+bare+binary+call+further+index+node+template+unary.Needs as need

@@ -4,7 +4,7 @@ use Prim.Native.Nat.{ℕ, _+_, _*_, _-_}
 use Rattle.units.specs.Sinks.{put, stateOf, lenderOf}
 use Rattle.nodes.specs.Meaning.{at, links, nums, exprsOf, partsOf}
 use Rattle.nodes.proofs.Members.{In}
-use Rattle.printer.specs.Printed.{printedFurther, printedParts}
+use Rattle.forms.specs.Printed.{printedFurther, printedParts}
 use Rattle.printer.specs.Views.{textsOf, exprIn, partsIn}
 use Rattle.printer.proofs.Rows.{above}
 use Rattle.printer.proofs.view.View.+bare+binary+call+further+index+node+template+unary.Given as given

@@ -6,7 +6,7 @@ use native.Mathlib.Omega.{arith}
 use lib.ListN.{length, drop}
 use Rattle.units.specs.Sinks.{put, stateOf}
 use Rattle.units.proofs.Sinks.{put-count, put-fits}
-use Rattle.printer.specs.Printed.{printed}
+use Rattle.forms.specs.Printed.{printed}
 use Rattle.printer.specs.Views.{exprIn}
 use Rattle.printer.proofs.view.View.print.Needs as need
 

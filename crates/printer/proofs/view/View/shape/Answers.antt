@@ -1,8 +1,8 @@
 use mathlib.Core.Path.{_≡_, refl, sym, ap, _∙_}
 use Rattle.syntax.specs.Expr.{Expr}
 use Rattle.syntax.specs.Operators.{unaryOf, binaryOf}
-use Rattle.printer.specs.Form.{spell}
-use Rattle.printer.specs.Parens.{shape}
+use Rattle.forms.specs.Form.{spell}
+use Rattle.forms.specs.Parens.{shape}
 use Rattle.printer.proofs.Reading.{read, closed, unary-none, unary-some, binary-none, binary-some}
 use Rattle.printer.proofs.view.View.shape.Needs as need
 

@@ -7,7 +7,7 @@ use Rattle.std.specs.Of.Vec.{vec-items}
 use Rattle.std.specs.declared.option.Option.the-variants.{None}
 use Rattle.std.proofs.shelf.Tests.{and-from}
 use Rattle.names.specs.Table.{texts, classes, listed, textOf, classOf}
-use Rattle.names.specs.Words as Words
+use Rattle.words.specs.Words as Words
 use Rattle.tree.specs.Calls.{classFits, nameFits, Listable, Named}
 use Rattle.tree.specs.Of.{stateOf}
 use Rattle.tree.proofs.Admitting.{unrooted}

@@ -1,0 +1,4 @@
+pub mod examples;
+pub mod numeral;
+pub mod parens;
+pub mod quote;

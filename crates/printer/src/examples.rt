@@ -1,8 +1,0 @@
-ghost use Rattle.printer.specs.Examples.{Examples};
-
-// States the worked examples of printing; the answer says nothing.
-pub fn worked_examples() -> u8
-    ensures { λ _. ⌜ Examples ⌝ }
-{
-    0
-}

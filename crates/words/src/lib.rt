@@ -1,0 +1,2 @@
+pub mod reserved;
+pub mod text;
