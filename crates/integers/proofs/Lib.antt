@@ -1,0 +1,6 @@
+mod Fields
+mod Words
+mod Operators
+mod Values
+mod Tens
+mod Made
