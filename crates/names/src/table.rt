@@ -6,9 +6,9 @@ ghost use mathlib.Core.List.{[]};
 ghost use mathlib.Core.Path.{_≡_};
 ghost use Rattle.std.specs.shelf.Maps.{nth};
 ghost use Rattle.names.specs.Table.{textOf, listed as listedIn, texts, classes, FirstAt, Added, constantValue};
-use words::text::MAX_UNITS;
 use units::span::Span;
 use units::span::Text;
+use words::text::MAX_UNITS;
 
 // The value of a constant. A string is a part of the source text.
 #[derive(Clone, Copy)]

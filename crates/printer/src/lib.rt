@@ -1,5 +1,5 @@
-mod number;
 pub mod node;
+mod number;
 pub mod print;
 mod read;
 mod sign;

@@ -2,8 +2,8 @@ ghost use Prim.Native.Nat.{_<_};
 ghost use Rattle.printer.specs.Fitted.{Fitted};
 ghost use Rattle.forms.specs.Printed.{printed};
 ghost use Rattle.printer.specs.Views.{exprIn, WellFormed};
-use forms::parens::Place;
 use crate::view::View;
+use forms::parens::Place;
 use units::sink::Sink;
 use writer::NumberWriter;
 

@@ -3,7 +3,6 @@ use crate::fault::*;
 use crate::rows::bytes;
 use crate::rows::text;
 use crate::rows::word;
-use words::reserved::is_reserved;
 use forms::quote::quote;
 use std::alloc::AllocError;
 use std::alloc::Global;
@@ -11,6 +10,7 @@ use std::fmt::Debug;
 use template::cook;
 use template::is_raw_part;
 use units::sink::Sink;
+use words::reserved::is_reserved;
 
 pub(crate) fn check_raw_part(heap: Global, fields: &[&str]) -> Result<(), Fault> {
     let (raw, expected) = match fields {

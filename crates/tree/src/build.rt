@@ -10,7 +10,6 @@ ghost use Rattle.tree.specs.Calls.{Not, nameListed, InSource, RawPart, RawPart
 ghost use Rattle.tree.specs.Of.{stateOf};
 use crate::refusal::Refusal;
 use crate::store::Store;
-use words::text::is_identifier;
 use nodes::check::are_free;
 use nodes::check::tallest;
 use nodes::count::count_fits;
@@ -23,6 +22,7 @@ use units::span::Span;
 use units::span::Text;
 use units::span::part;
 use units::span::within;
+use words::text::is_identifier;
 
 // The height of a level: folds may put a deeper expression in a node's place.
 const LEVEL: u16 = 4;
