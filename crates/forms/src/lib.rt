@@ -1,3 +1,5 @@
+#![tactic(auto)]
+
 pub mod examples;
 pub mod numeral;
 pub mod parens;

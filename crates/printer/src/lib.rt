@@ -1,3 +1,5 @@
+#![tactic(auto)]
+
 pub mod node;
 mod number;
 pub mod print;

@@ -1,3 +1,5 @@
+#![tactic(auto)]
+
 mod convert;
 mod help;
 mod json;

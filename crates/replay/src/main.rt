@@ -1,4 +1,6 @@
 // Replays what a JavaScript engine answered, and stops at the first row that is answered otherwise.
+#![tactic(auto)]
+
 mod checks;
 mod fault;
 mod recording;

@@ -14,6 +14,8 @@
 // exponent as JavaScript has them, or `NaN`, `Infinity` or `-Infinity`. The other fields are decimal
 // integers: nodes and indices count to `u16::MAX`, START and LEN to `u32::MAX`, and ENTRIES, FOLDED
 // and CAPACITY to `usize::MAX`; one past that counts as that.
+#![tactic(auto)]
+
 mod builds;
 pub mod calls;
 pub mod expected;

@@ -1,4 +1,6 @@
 // Lines of a script, and what is read of them.
+#![tactic(auto)]
+
 #[cfg(test)]
 mod shown;
 #[cfg(test)]

@@ -1,3 +1,5 @@
+#![tactic(auto)]
+
 ghost use Rattle.std.specs.Prelude.{◌≡◌, ◌+◌, ◌-◌, false, ◌&&◌, [], ◌∷◌, ◌++◌, length, take, is_some, IfSome, if◌then◌else◌, nat_le, nat_lt};
 
 // A stack in a slice that the caller supplies. Its items are the first `len` of `slots`.

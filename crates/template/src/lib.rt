@@ -1,5 +1,7 @@
 // The raw text between the backticks and substitutions of a JavaScript template literal, as 16-bit
 // code units: which texts are raw parts, and what they cook to.
+#![tactic(auto)]
+
 mod cooking;
 mod machine;
 mod recogniser;

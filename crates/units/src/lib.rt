@@ -1,3 +1,5 @@
+#![tactic(auto)]
+
 pub mod code_point;
 pub mod sink;
 pub mod span;

@@ -1,2 +1,4 @@
+#![tactic(auto)]
+
 pub mod reserved;
 pub mod text;

@@ -1,4 +1,6 @@
 // How numbers are written: an interface, and two writers of it.
+#![tactic(auto)]
+
 mod digits;
 pub mod examples;
 pub mod number_writer;
