@@ -23,7 +23,7 @@ returns c =
     let text = c.args.text.now in
     let s = state_of c.args.sink.now in
     let body = encodes (escapes (code_points text)) in
-    let all = at_drop_all (λ us. put (state_of c.loop-point.sink) (encodes (escapes (code_points us)))) text c.loop-point.at c.in-default.ensures in
+    let all = at_drop_all (λ us. put (state_of c.loop-point.sink) (encodes (escapes (code_points us)))) text c.loop-point.at c.in_default.ensures in
     let before = sym all ∙ c.loop-point.invariant.0 ∙ ap (λ t. put t body) c.byte.ensures.state in
     let joined = put-append (put s (codes "\"")) body (codes "\"") ∙ ap (put s) (sym (quoted_bytes text)) in
     record { state = c.byte-2.ensures.state ∙ ap (λ t. put t (codes "\"")) before ∙ joined; lent = search rules }

@@ -6,4 +6,4 @@ use Rattle.integers.proofs.bitwise.bitwise_not.Goals as goal
 
 pub returns : goal.returns
 unfolding bitwise_not
-returns c = ap number_of (complement_is c.to-int-32.result (record { sfits = c.to-int-32.type-inv })) ∙ ap (λ (z : ℤ). number_of (complement z)) c.to-int-32.ensures.value
+returns c = ap number_of (complement_is c.to_int_32.result (record { sfits = c.to_int_32.type_inv })) ∙ ap (λ (z : ℤ). number_of (complement z)) c.to_int_32.ensures.value

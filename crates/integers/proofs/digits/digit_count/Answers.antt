@@ -30,19 +30,19 @@ number nan r h i f = absurd (true≢false h)
 number (inf s) r h i f = absurd (true≢false i)
 number (fin s m e) r h i f = ap (λ (n : ℕ). n + minus s) (f m e refl)
 
-pub returns-then-is-nan : goal.returns-then-is-nan
-returns-then-is-nan c = record { value = no_number c.args.x (sym c.if-is-nan.ensures.value); lengths = lengths }
+pub returns-then-is_nan : goal.returns-then-is_nan
+returns-then-is_nan c = record { value = no_number c.args.x (sym c.if-is_nan.ensures.value); lengths = lengths }
 
-pub returns-then-is-infinite : goal.returns-then-is-infinite
-returns-then-is-infinite c = record {
-  value = ap (λ (n : ℕ). 8 + n) (minus_is _ _ c.is-sign-negative-minus.ensures) ∙ endless c.args.x (sym c.if-is-infinite.ensures.value);
+pub returns-then-is_infinite : goal.returns-then-is_infinite
+returns-then-is_infinite c = record {
+  value = ap (λ (n : ℕ). 8 + n) (minus_is _ _ c.is_sign_negative-minus.ensures) ∙ endless c.args.x (sym c.if-is_infinite.ensures.value);
   lengths = lengths;
 }
 
-pub returns-else-is-infinite : goal.returns-else-is-infinite
-returns-else-is-infinite c = record {
+pub returns-else-is_infinite : goal.returns-else-is_infinite
+returns-else-is_infinite c = record {
   value =
-      ap (λ (n : ℕ). c.whole-digits.result + n) (minus_is _ _ c.is-sign-negative-minus.ensures)
-      ∙ number c.args.x c.whole-digits.result (sym c.if-is-nan.ensures.value) (sym c.if-is-infinite.ensures.value) (λ m e h. c.whole-digits.ensures.value m e (c.abs.ensures.value ∙ h));
+      ap (λ (n : ℕ). c.whole_digits.result + n) (minus_is _ _ c.is_sign_negative-minus.ensures)
+      ∙ number c.args.x c.whole_digits.result (sym c.if-is_nan.ensures.value) (sym c.if-is_infinite.ensures.value) (λ m e h. c.whole_digits.ensures.value m e (c.abs.ensures.value ∙ h));
   lengths = lengths;
 }

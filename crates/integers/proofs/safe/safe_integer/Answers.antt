@@ -54,27 +54,27 @@ large (inf s) n e l = refl
 large (fin s m d) n e l =
     sym (ap (λ (b : Bool). cond b (made s (whole m d)) None) (and_right (eqb (m * up d % down d) 0) _ (lt-leb (whole m d) (2 ^ 53 - 1) (omega arith))))
 
-pub is-sign-negative-requires : goal.is-sign-negative-requires
-is-sign-negative-requires c = number c.args.x _ (sym (ap (eq (of_int binary64 (pos c.saturating-f64-to-u64-n.result))) c.abs-magnitude.ensures.value) ∙ c.if-n-magnitude.true)
+pub is_sign_negative-requires : goal.is_sign_negative-requires
+is_sign_negative-requires c = number c.args.x _ (sym (ap (eq (of_int binary64 (pos c.saturating_f64_to_u64-n.result))) c.abs-magnitude.ensures.value) ∙ c.if-n-magnitude.true)
 
 pub returns-then-n-magnitude : goal.returns-then-n-magnitude
 returns-then-n-magnitude c = record {
   value =
-      ap (λ (b : Bool). made b c.saturating-f64-to-u64-n.result) c.is-sign-negative.ensures
-      ∙ yes c.args.x c.saturating-f64-to-u64-n.result (c.saturating-f64-to-u64-n.ensures ∙ ap (to_unsigned 64) c.abs-magnitude.ensures.value) c.if-n-le9007199254740991.true (sym (ap (eq (of_int binary64 (pos c.saturating-f64-to-u64-n.result))) c.abs-magnitude.ensures.value) ∙ c.if-n-magnitude.true);
+      ap (λ (b : Bool). made b c.saturating_f64_to_u64-n.result) c.is_sign_negative.ensures
+      ∙ yes c.args.x c.saturating_f64_to_u64-n.result (c.saturating_f64_to_u64-n.ensures ∙ ap (to_unsigned 64) c.abs-magnitude.ensures.value) c.if-n-le9007199254740991.true (sym (ap (eq (of_int binary64 (pos c.saturating_f64_to_u64-n.result))) c.abs-magnitude.ensures.value) ∙ c.if-n-magnitude.true);
   same = safe_made;
 }
 
 pub returns-else-n-magnitude : goal.returns-else-n-magnitude
 returns-else-n-magnitude c = record {
   value =
-      no c.args.x c.saturating-f64-to-u64-n.result (c.saturating-f64-to-u64-n.ensures ∙ ap (to_unsigned 64) c.abs-magnitude.ensures.value) c.if-n-le9007199254740991.true (sym (ap (eq (of_int binary64 (pos c.saturating-f64-to-u64-n.result))) c.abs-magnitude.ensures.value) ∙ c.if-n-magnitude.false);
+      no c.args.x c.saturating_f64_to_u64-n.result (c.saturating_f64_to_u64-n.ensures ∙ ap (to_unsigned 64) c.abs-magnitude.ensures.value) c.if-n-le9007199254740991.true (sym (ap (eq (of_int binary64 (pos c.saturating_f64_to_u64-n.result))) c.abs-magnitude.ensures.value) ∙ c.if-n-magnitude.false);
   same = safe_made;
 }
 
 pub returns-else-n-le9007199254740991 : goal.returns-else-n-le9007199254740991
 returns-else-n-le9007199254740991 c = record {
   value =
-      large c.args.x c.saturating-f64-to-u64-n.result (c.saturating-f64-to-u64-n.ensures ∙ ap (to_unsigned 64) c.abs-magnitude.ensures.value) c.if-n-le9007199254740991.false;
+      large c.args.x c.saturating_f64_to_u64-n.result (c.saturating_f64_to_u64-n.ensures ∙ ap (to_unsigned 64) c.abs-magnitude.ensures.value) c.if-n-le9007199254740991.false;
   same = safe_made;
 }

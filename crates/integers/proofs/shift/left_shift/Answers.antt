@@ -10,8 +10,8 @@ pub returns : goal.returns
 unfolding left_shift
 returns c = record {
   value =
-      ap number_of (left_is c.to-int-32.result c.shift-count.result (record { sfits = c.to-int-32.type-inv }))
-      ∙ ap (λ (z : ℤ). number_of (signed (bits z * 2 ^ c.shift-count.result % 2 ^ 32))) c.to-int-32.ensures.value
-      ∙ ap (λ (k : ℕ). number_of (signed (bits (to_int_32 c.args.x) * 2 ^ k % 2 ^ 32))) c.shift-count.ensures.value;
+      ap number_of (left_is c.to_int_32.result c.shift_count.result (record { sfits = c.to_int_32.type_inv }))
+      ∙ ap (λ (z : ℤ). number_of (signed (bits z * 2 ^ c.shift_count.result % 2 ^ 32))) c.to_int_32.ensures.value
+      ∙ ap (λ (k : ℕ). number_of (signed (bits (to_int_32 c.args.x) * 2 ^ k % 2 ^ 32))) c.shift_count.ensures.value;
   neutral = left_neutral;
 }

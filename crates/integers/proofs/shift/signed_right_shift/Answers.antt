@@ -9,7 +9,7 @@ pub returns : goal.returns
 unfolding signed_right_shift
 returns c = record {
   value =
-      ap number_of (right_is c.to-int-32.result c.shift-count.result (record { sfits = c.to-int-32.type-inv })
-      ∙ ap (λ (z : ℤ). extended z c.shift-count.result) c.to-int-32.ensures.value ∙ ap (extended (to_int_32 c.args.x)) c.shift-count.ensures.value);
+      ap number_of (right_is c.to_int_32.result c.shift_count.result (record { sfits = c.to_int_32.type_inv })
+      ∙ ap (λ (z : ℤ). extended z c.shift_count.result) c.to_int_32.ensures.value ∙ ap (extended (to_int_32 c.args.x)) c.shift_count.ensures.value);
   neutral = right_neutral;
 }

@@ -16,6 +16,6 @@ worked = (refl, refl, refl, refl, refl, refl, refl, refl, refl, refl, refl, refl
 pub returns : goal.returns
 unfolding to_int_32
 returns c = record {
-  value = to_z-of_z w32 c.cast-signed.result (record { sfits = c.cast-signed.type-inv }) ∙ c.cast-signed.ensures ∙ ap (to_z w32) c.to-uint-32.ensures.value ∙ signed_is (to_uint_32 c.args.x) (low_lt c.args.x);
+  value = to_z-of_z w32 c.cast_signed.result (record { sfits = c.cast_signed.type_inv }) ∙ c.cast_signed.ensures ∙ ap (to_z w32) c.to_uint_32.ensures.value ∙ signed_is (to_uint_32 c.args.x) (low_lt c.args.x);
   examples = worked;
 }

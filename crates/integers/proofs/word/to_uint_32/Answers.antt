@@ -37,12 +37,12 @@ low_is x b r f e h = h ∙ ap (λ (n : ℕ). size_modulo (of_bits binary64 n)) e
 
 pub returns-then-x : goal.returns-then-x
 returns-then-x c =
-    let e = low_is c.args.x _ _ c.well-formed.0.1 c.f64-to-bits-with-nan.ensures c.low-word-low.ensures in
+    let e = low_is c.args.x _ _ c.well_formed.0.1 c.f64_to_bits_with_nan.ensures c.low_word-low.ensures in
     let z = negative c.args.x (sym (ap (lt c.args.x) zero_is) ∙ c.if-x.true) in
     record { value = omega (arith, e, z); modulo = modulo_law }
 
 pub returns-else-x : goal.returns-else-x
 returns-else-x c = record {
-  value = low_is c.args.x _ _ c.well-formed.0.1 c.f64-to-bits-with-nan.ensures c.low-word-low.ensures ∙ other c.args.x (sym (ap (lt c.args.x) zero_is) ∙ c.if-x.false);
+  value = low_is c.args.x _ _ c.well_formed.0.1 c.f64_to_bits_with_nan.ensures c.low_word-low.ensures ∙ other c.args.x (sym (ap (lt c.args.x) zero_is) ∙ c.if-x.false);
   modulo = modulo_law;
 }

@@ -14,5 +14,5 @@ loop-i-preserved c =
     let ps = c.args.parts.now in
     let i = c.loop-i.i in
     let back : i - 1 + 1 ≡ i = omega arith in
-    let again : c.is-among-again.result ≡ has (node_at ps (i - 1)) (nodes (drop i ps)) = c.is-among-again.ensures ∙ ap (λ (k : ℕ). has (node_at ps (i - 1)) (nodes (drop k ps))) back in
-    rw (c.is-loose.ensures, again) (free_more ps c.args.entries.now c.args.used i c.loop-i.free (omega arith) (omega arith) c.loop-i.invariant)
+    let again : c.is_among-again.result ≡ has (node_at ps (i - 1)) (nodes (drop i ps)) = c.is_among-again.ensures ∙ ap (λ (k : ℕ). has (node_at ps (i - 1)) (nodes (drop k ps))) back in
+    rw (c.is_loose.ensures, again) (free_more ps c.args.entries.now c.args.used i c.loop-i.free (omega arith) (omega arith) c.loop-i.invariant)

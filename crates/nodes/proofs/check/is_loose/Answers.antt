@@ -7,4 +7,4 @@ twice true = refl
 twice false = refl
 
 pub returns : goal.returns
-returns c = rw (lt-ltb c.args.n c.args.used (omega arith)) (twice c.is-none.result ∙ sym (ap not c.is-none.ensures))
+returns c = rw (lt-ltb c.args.n c.args.used (omega arith)) (twice c.is_none.result ∙ sym (ap not c.is_none.ensures))

@@ -4,4 +4,4 @@ use Rattle.replay.proofs.rows.unit.Goals as goal
 
 pub returns : goal.returns
 returns c =
-    quad_of c.in-ok-high.high c.in-ok-low.low c.from-be-bytes.result c.args.digits.now (omega arith) c.from-be-bytes.ensures (search rules) c.in-ok-high.ensures c.in-ok-low.ensures
+    quad_of c.in_ok-high.high c.in_ok-low.low c.from_be_bytes.result c.args.digits.now (omega arith) c.from_be_bytes.ensures (search rules) c.in_ok-high.ensures c.in_ok-low.ensures

@@ -5,7 +5,7 @@ use Rattle.replay.proofs.rows.units.Goals as goal
 
 pub loop-digits-preserved : goal.loop-digits-preserved
 loop-digits-preserved c =
-    read_on quad (vec_items c.loop-digits.units) _ c.in-ok-unit.field-0 c.in-Some.digits.now _ _ _ c.loop-digits.invariant c.in-Some.ensures.steps.1.0 c.in-ok-unit.ensures c.in-ok-push.ensures.items
+    read_on quad (vec_items c.loop-digits.units) _ c.in_ok-unit.field-0 c.in-Some.digits.now _ _ _ c.loop-digits.invariant c.in-Some.ensures.steps.1.0 c.in_ok-unit.ensures c.in_ok-push.ensures.items
 
 pub returns : goal.returns
 returns c = read_all (spelled quad (vec_items c.loop-digits.units)) _ _ c.loop-digits.invariant c.in-None.ensures.steps.1.0

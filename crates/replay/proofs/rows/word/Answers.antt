@@ -7,7 +7,7 @@ pub loop-b-preserved : goal.loop-b-preserved
 loop-b-preserved c =
     let e = append_assoc (vec_items c.loop-b.units) (c.in-Some.b ∷ []) (bytes_rest c.next.new.self) in
     let cut = c.in-Some.ensures.steps in
-    let grown = c.in-ok-push.ensures.items in
+    let grown = c.in_ok-push.ensures.items in
     cc
 
 pub returns : goal.returns

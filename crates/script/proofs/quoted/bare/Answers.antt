@@ -8,10 +8,10 @@ pub loop-c-init : goal.loop-c-init
 loop-c-init c = bare_none c.args.word.now _ _ (cc) c.new-units.ensures.items
 
 pub loop-c-preserved : goal.loop-c-preserved
-loop-c-preserved c = bare_char _ _ _ c.in-Some.c _ _ c.loop-c.invariant c.in-Some.ensures.steps.0 (c.in-ok-push-char.ensures refl)
+loop-c-preserved c = bare_char _ _ _ c.in-Some.c _ _ c.loop-c.invariant c.in-Some.ensures.steps.0 (c.in_ok-push_char.ensures refl)
 
-pub returns-in-err-push-char : goal.returns-in-err-push-char
-returns-in-err-push-char c = let p = err_from_is_err_and c.from-residual.result c.from-residual.ensures.1 in rw p.1 tt
+pub returns-in_err-push_char : goal.returns-in_err-push_char
+returns-in_err-push_char c = let p = err_from_is_err_and c.from-residual.result c.from-residual.ensures.1 in rw p.1 tt
 
 pub returns : goal.returns
 returns c = bare_end _ _ _ c.loop-c.invariant c.in-None.ensures.steps.0.0

@@ -11,9 +11,9 @@ returns c =
       after_a = _;
       after_b = _;
       after_c = _;
-      first = c.in-ok-first.ensures;
-      second = c.in-ok-second.ensures;
-      third = c.in-ok-third.ensures;
-      fourth = c.in-ok-fourth.ensures;
+      first = c.in_ok-first.ensures;
+      second = c.in_ok-second.ensures;
+      third = c.in_ok-third.ensures;
+      fourth = c.in_ok-fourth.ensures;
       worth = refl;
     }

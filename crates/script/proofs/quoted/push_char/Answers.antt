@@ -7,6 +7,6 @@ pub returns : goal.returns
 returns c _ =
     let n = c.args.c in
     let pair : utf16 n ≡ (55296 + (n - 65536) / 1024) ∷ (56320 + (n - 65536) % 1024) ∷ [] = cond-false _ _ _ (le-ltb n 65536 c.if-code-lt65536.false) in
-    let one = c.in-ok-push-2.ensures.items in
-    let two = c.in-ok-push-3.ensures.items in
+    let one = c.in_ok-push-2.ensures.items in
+    let two = c.in_ok-push-3.ensures.items in
     simp (two, one, append_assoc, pair)

@@ -5,5 +5,5 @@ use Rattle.script.proofs.words.unspaced_text.Goals as goal
 
 pub returns : goal.returns
 returns c =
-    sym (unspaced_same c.loop-after.rest.now (strip_prefix_char 32 c.loop-after.rest.now None c.in-default.ensures.cases (omega arith)))
+    sym (unspaced_same c.loop-after.rest.now (strip_prefix_char 32 c.loop-after.rest.now None c.in_default.ensures.cases (omega arith)))
     ∙ c.loop-after.invariant.1

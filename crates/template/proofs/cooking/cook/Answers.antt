@@ -6,10 +6,10 @@ use Rattle.template.proofs.Complete.{complete}
 use Rattle.template.proofs.Parts.{is_raw}
 use Rattle.template.proofs.cooking.cook.Goals as goal
 
-pub returns-in-err-length : goal.returns-in-err-length
-returns-in-err-length c =
-    let long = c.in-err-length.ensures in
-    rw c.from-residual.ensures (
+pub returns-in_err-length : goal.returns-in_err-length
+returns-in_err-length c =
+    let long = c.in_err-length.ensures in
+    rw c.from_residual.ensures (
       refl,
       λ cooked r.
           subst (λ t. length c.args.out.now < length t) (complete r).gave (long (complete r).ended),
@@ -18,11 +18,11 @@ returns-in-err-length c =
 pub returns : goal.returns
 returns c =
     let text = emitted Start c.args.raw.now in
-    let k = c.in-ok-length.length in
-    let measured = c.in-ok-length.ensures in
+    let k = c.in_ok-length.length in
+    let measured = c.in_ok-length.ensures in
     let count : length text ≡ k = sym measured.1 in
-    let out : c.write-cooked.new.out ≡ text ++ drop k c.args.out.now =
-    c.write-cooked.ensures ∙ ap (λ n. text ++ drop n c.args.out.now) count in
-    let front : take k c.write-cooked.new.out ≡ text = ap (take k) out ∙ take_at text _ k count in
-    let rear : drop k c.write-cooked.new.out ≡ drop k c.args.out.now = ap (drop k) out ∙ drop_at text _ k count in
+    let out : c.write_cooked.new.out ≡ text ++ drop k c.args.out.now =
+    c.write_cooked.ensures ∙ ap (λ n. text ++ drop n c.args.out.now) count in
+    let front : take k c.write_cooked.new.out ≡ text = ap (take k) out ∙ take_at text _ k count in
+    let rear : drop k c.write_cooked.new.out ≡ drop k c.args.out.now = ap (drop k) out ∙ drop_at text _ k count in
     (is_raw _ _ measured.0 (sym front), ap length front ∙ count, rear)

@@ -16,14 +16,14 @@ loop-unit-preserved c =
     let on = ends_more c.loop-unit.state c.args.raw.now c.loop-unit.unit-index c.advance-step.result (omega arith) c.advance-step.ensures in
     (sym on ∙ c.loop-unit.invariant.0, omega arith, omega arith)
 
-pub returns-then-may-end : goal.returns-then-may-end
-returns-then-may-end c =
+pub returns-then-may_end : goal.returns-then-may_end
+returns-then-may_end c =
     let last = ends_all c.loop-unit.state c.args.raw.now c.loop-unit.unit-index (omega arith) in
     let none = ap length (emitted_all c.loop-unit.state c.args.raw.now c.loop-unit.unit-index (omega arith)) in
     (cc, omega arith, omega arith)
 
-pub returns-else-may-end : goal.returns-else-may-end
-returns-else-may-end c =
+pub returns-else-may_end : goal.returns-else-may_end
+returns-else-may_end c =
     let last = ends_all c.loop-unit.state c.args.raw.now c.loop-unit.unit-index (omega arith) in
     let no : ends Start c.args.raw.now ≡ false = cc in
     λ e. absurd (both_ways _ no e)

@@ -14,7 +14,7 @@ pub returns : goal.returns
 returns c =
     let xs = c.args.text.now in
     let last = ends_all c.loop-unit.state xs c.loop-unit.unit-index (omega arith) in
-    let is : c.may-end.result ≡ ends Start xs = cc in
+    let is : c.may_end.result ≡ ends Start xs = cc in
     record {
       yes = λ e. (emitted Start xs, is_raw xs _ (rw is at e) refl);
       no = λ e. no_raw xs (rw is at e);

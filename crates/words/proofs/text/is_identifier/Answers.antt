@@ -18,15 +18,15 @@ rest_decides text r h l s e =
 step : (us : List ℕ) (i : ℕ) (t : Bool) → i < length us → t ≡ part (get_or us i 0) → parts (drop i us) ≡ (t && parts (drop (i + 1) us))
 step us i t h e = at_drop_more parts us i 0 h ∙ ap (λ b. b && parts (drop (i + 1) us)) (sym e)
 
-pub returns-then-not-is-part : goal.returns-then-not-is-part
-returns-then-not-is-part c =
-    rest_decides c.args.text.now _ (omega (arith, ltb-false)) (omega arith) c.if-not-is-start.ensures
-    (sym (step (tail c.args.text.now) c.loop-unit.unit-index _ (omega arith) c.if-not-is-part.ensures) ∙ c.loop-unit.invariant)
+pub returns-then-not-is_part : goal.returns-then-not-is_part
+returns-then-not-is_part c =
+    rest_decides c.args.text.now _ (omega (arith, ltb-false)) (omega arith) c.if-not-is_start.ensures
+    (sym (step (tail c.args.text.now) c.loop-unit.unit-index _ (omega arith) c.if-not-is_part.ensures) ∙ c.loop-unit.invariant)
 
 pub loop-unit-preserved : goal.loop-unit-preserved
-loop-unit-preserved c = sym (step (tail c.args.text.now) c.loop-unit.unit-index _ (omega arith) c.if-not-is-part.ensures) ∙ c.loop-unit.invariant
+loop-unit-preserved c = sym (step (tail c.args.text.now) c.loop-unit.unit-index _ (omega arith) c.if-not-is_part.ensures) ∙ c.loop-unit.invariant
 
 pub returns : goal.returns
 returns c =
-    rest_decides c.args.text.now _ (omega (arith, ltb-false)) (omega arith) c.if-not-is-start.ensures
+    rest_decides c.args.text.now _ (omega (arith, ltb-false)) (omega arith) c.if-not-is_start.ensures
     (sym (at_drop_all parts (tail c.args.text.now) c.loop-unit.unit-index (omega arith)) ∙ c.loop-unit.invariant)

@@ -7,8 +7,8 @@ worked : Examples
 unfolding Examples reserved
 worked = (refl, refl, refl, refl, refl, refl, refl, refl, refl, refl, refl, refl, refl, refl, refl, refl, refl, refl, refl, refl, refl)
 
-pub returns-then-is-identifier : goal.returns-then-is-identifier
-returns-then-is-identifier c = record { decides = search rules; examples = worked }
+pub returns-then-is_identifier : goal.returns-then-is_identifier
+returns-then-is_identifier c = record { decides = search rules; examples = worked }
 
-pub returns-else-is-identifier : goal.returns-else-is-identifier
-returns-else-is-identifier c = record { decides = search rules; examples = worked }
+pub returns-else-is_identifier : goal.returns-else-is_identifier
+returns-else-is_identifier c = record { decides = search rules; examples = worked }

@@ -18,28 +18,28 @@ returns-then-n-lt10 t c =
       wrote = take_more_set c.args.out.now c.args.at (48 + c.args.n) (omega (arith, k)) ∙ ap (λ (xs : List ℕ). take c.args.at c.args.out.now ++ xs) (sym e);
     }
 
-pub put-digits-end-requires : goal.put-digits-end-requires
-put-digits-end-requires t c = omega (arith, longer c.args.n (omega arith) (omega arith))
+pub put_digits-end-requires : goal.put_digits-end-requires
+put_digits-end-requires t c = omega (arith, longer c.args.n (omega arith) (omega arith))
 
 pub bounds-out-end : goal.bounds-out-end
-bounds-out-end t c = omega (arith, longer c.args.n (omega arith) (omega arith), c.put-digits-end.ensures.ends)
+bounds-out-end t c = omega (arith, longer c.args.n (omega arith) (omega arith), c.put_digits-end.ensures.ends)
 
-pub overflow-add-result-2 : goal.overflow-add-result-2
-overflow-add-result-2 t c = omega (arith, longer c.args.n (omega arith) (omega arith), c.put-digits-end.ensures.ends)
+pub overflow_add-result-2 : goal.overflow_add-result-2
+overflow_add-result-2 t c = omega (arith, longer c.args.n (omega arith) (omega arith), c.put_digits-end.ensures.ends)
 
 pub returns : goal.returns
 returns t c =
     let n = c.args.n in
     let e = longer n (omega arith) (omega arith) in
-    let end = c.put-digits-end.result in
-    let xs = c.put-digits-end.new.out in
+    let end = c.put_digits-end.result in
+    let xs = c.put_digits-end.new.out in
     let front = take c.args.at c.args.out.now in
     let v = 48 + n % 10 in
     record {
-      ends = omega (arith, e, c.put-digits-end.ensures.ends);
+      ends = omega (arith, e, c.put_digits-end.ensures.ends);
       wrote =
-          take_more_set xs end v (omega (arith, e, c.put-digits-end.ensures.ends))
-          ∙ ap (λ (ys : List ℕ). ys ++ v ∷ []) c.put-digits-end.ensures.wrote
+          take_more_set xs end v (omega (arith, e, c.put_digits-end.ensures.ends))
+          ∙ ap (λ (ys : List ℕ). ys ++ v ∷ []) c.put_digits-end.ensures.wrote
           ∙ append_assoc front (decimal (n / 10)) (v ∷ [])
           ∙ ap (λ (ys : List ℕ). front ++ ys) (sym (decimal_step n (omega arith) (omega arith)));
     }

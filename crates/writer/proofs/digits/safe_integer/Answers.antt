@@ -16,22 +16,22 @@ none x h = go (integer x) refl
     go None p = refl
     go (Some n) p = absurd (h n p)
 
-pub returns-then-n-gt-MAX-SAFE-INTEGER : goal.returns-then-n-gt-MAX-SAFE-INTEGER
-returns-then-n-gt-MAX-SAFE-INTEGER c = none c.args.x (λ k p. omega (arith, whole_part c.args.x k p, (integer_is c.args.x k p).0))
+pub returns-then-n-gt-MAX_SAFE_INTEGER : goal.returns-then-n-gt-MAX_SAFE_INTEGER
+returns-then-n-gt-MAX_SAFE_INTEGER c = none c.args.x (λ k p. omega (arith, whole_part c.args.x k p, (integer_is c.args.x k p).0))
 
-pub returns-then-f64-to-bits-with-nan : goal.returns-then-f64-to-bits-with-nan
-returns-then-f64-to-bits-with-nan c =
+pub returns-then-f64_to_bits_with_nan : goal.returns-then-f64_to_bits_with_nan
+returns-then-f64_to_bits_with_nan c =
     let x = c.args.x in
-    let n = c.saturating-f64-to-u64-n.result in
+    let n = c.saturating_f64_to_u64-n.result in
     none x (λ k p.
-    let e : k ≡ n = sym (c.saturating-f64-to-u64-n.ensures ∙ whole_part x k p) in
+    let e : k ≡ n = sym (c.saturating_f64_to_u64-n.ensures ∙ whole_part x k p) in
     let same : of_int binary64 (pos n) ≡ x = ap (λ (j : ℕ). of_int binary64 (pos j)) (sym e) ∙ sym (integer_is x k p).1 in
-    c.if-f64-to-bits-with-nan.true (c.f64-to-bits-with-nan.ensures ∙ ap (to_bits binary64) same ∙ sym c.f64-to-bits-with-nan-2.ensures))
+    c.if-f64_to_bits_with_nan.true (c.f64_to_bits_with_nan.ensures ∙ ap (to_bits binary64) same ∙ sym c.f64_to_bits_with_nan-2.ensures))
 
 pub returns : goal.returns
 returns c =
     let x = c.args.x in
-    let n = c.saturating-f64-to-u64-n.result in
-    let held : T (fits binary64 x) = subst T (sym c.well-formed.0.1) tt in
-    let same = same_bits (of_int binary64 (pos n)) x (of_int-fits binary64 (pos n)) held (sym c.f64-to-bits-with-nan.ensures ∙ c.if-f64-to-bits-with-nan.false ∙ c.f64-to-bits-with-nan-2.ensures) in
+    let n = c.saturating_f64_to_u64-n.result in
+    let held : T (fits binary64 x) = subst T (sym c.well_formed.0.1) tt in
+    let same = same_bits (of_int binary64 (pos n)) x (of_int-fits binary64 (pos n)) held (sym c.f64_to_bits_with_nan.ensures ∙ c.if-f64_to_bits_with_nan.false ∙ c.f64_to_bits_with_nan-2.ensures) in
     sym (integer_of n (omega arith)) ∙ ap integer same

@@ -6,8 +6,8 @@ use Rattle.writer.proofs.digits.without_zeros.Goals as goal
 found : (n m z : ℕ) → z + final_zeros (16 - z) m ≡ final_zeros 16 n → (0 < m → m % 10 ≡ 0 → ⊥) → z ≡ final_zeros 16 n
 found n m z e h = omega (arith, zeros_none (16 - z) m h)
 
-pub overflow-add-zeros : goal.overflow-add-zeros
-overflow-add-zeros c = omega (arith, fewer 16 c.args.n c.loop-stem.stem c.loop-stem.zeros c.requires c.loop-stem.invariant.0 (omega arith))
+pub overflow_add-zeros : goal.overflow_add-zeros
+overflow_add-zeros c = omega (arith, fewer 16 c.args.n c.loop-stem.stem c.loop-stem.zeros c.requires c.loop-stem.invariant.0 (omega arith))
 
 pub loop-stem-preserved : goal.loop-stem-preserved
 loop-stem-preserved c =

@@ -9,27 +9,27 @@ use Rattle.tree.proofs.store.Store.admit.Goals as goal
 use Rattle.tree.proofs.store.Store.admit.Goals.{Else-not-is-good, After-tallest-below}
 
 -- what has passed when the marks are looked at
-passed : (c : goal.Else-not-is-good) → (c.args.self.now.root ≡ None) × Found (state_of c.args.self.now) c.args.shape c.args.parts.now × Good c.args.written (state_of c.args.self.now) c.args.shape c.args.parts.now
+passed : (c : goal.Else-not-is_good) → (c.args.self.now.root ≡ None) × Found (state_of c.args.self.now) c.args.shape c.args.parts.now × Good c.args.written (state_of c.args.self.now) c.args.shape c.args.parts.now
 passed c = (
-  unrooted c.args.self.now.root c.is-some.result c.is-some.ensures c.if-is-some.false,
+  unrooted c.args.self.now.root c.is_some.result c.is_some.ensures c.if-is_some.false,
   (
-    ap (λ (es : List Entry). free es c.args.self.now.used c.args.parts.now) (sym c.deref.ensures.value) ∙ sym c.are-free.ensures ∙ c.if-not-are-free.false,
-    sym c.name-listed.ensures ∙ c.if-not-name-listed.false,
+    ap (λ (es : List Entry). free es c.args.self.now.used c.args.parts.now) (sym c.deref.ensures.value) ∙ sym c.are_free.ensures ∙ c.if-not-are_free.false,
+    sym c.name_listed.ensures ∙ c.if-not-name_listed.false,
   ),
-  c.if-not-is-good.ensures,
+  c.if-not-is_good.ensures,
 )
 
-pub marks-fit-requires : goal.marks-fit-requires
-marks-fit-requires c = nodes_low (vec_items c.args.self.now.entries) c.args.self.now.used c.args.parts.now (passed c).1.0
+pub marks_fit-requires : goal.marks_fit-requires
+marks_fit-requires c = nodes_low (vec_items c.args.self.now.entries) c.args.self.now.used c.args.parts.now (passed c).1.0
 
 pub tallest-below-requires : goal.tallest-below-requires
 tallest-below-requires c = λ k lt.
     let self = c.args.self.now in
-    let w = nodes_low (vec_items self.entries) self.used c.args.parts.now (passed (goal.at.tallest-below-requires c).Else-not-is-good).1.0 k lt in omega arith
+    let w = nodes_low (vec_items self.entries) self.used c.args.parts.now (passed (goal.at.tallest-below-requires c).Else-not-is_good).1.0 k lt in omega arith
 
 -- and when the height is known
 fits : (c : goal.After-tallest-below) → marks_fit c.args.shape (parts (state_of c.args.self.now) c.args.parts.now) ≡ true
-fits c = sym c.marks-fit.ensures ∙ c.if-not-marks-fit.false
+fits c = sym c.marks_fit.ensures ∙ c.if-not-marks_fit.false
 
 height : (c : goal.After-tallest-below) → c.tallest-below.result ≡ tallest (vec_items c.args.self.now.entries) c.args.parts.now
 height c = c.tallest-below.ensures ∙ ap (λ (es : List Entry). tallest es c.args.parts.now) c.deref-2.ensures.value
@@ -37,20 +37,20 @@ height c = c.tallest-below.ensures ∙ ap (λ (es : List Entry). tallest es c.ar
 pub returns-then-below : goal.returns-then-below
 returns-then-below c =
     let self = c.args.self.now in
-    let w = passed (goal.at.returns-then-below c).Else-not-is-good in
+    let w = passed (goal.at.returns-then-below c).Else-not-is_good in
     let d = (goal.at.returns-then-below c).After-tallest-below in
     (w.0, w.1, w.2, fits d, too_deep (texts_of self) (vec_items self.entries) self.used c.args.parts.now self.root self.levelled w.0 w.1.0 (let h = height d in omega arith))
 
 pub returns-then-self-len : goal.returns-then-self-len
 returns-then-self-len c =
     let self = c.args.self.now in
-    let w = passed (goal.at.returns-then-self-len c).Else-not-is-good in
+    let w = passed (goal.at.returns-then-self-len c).Else-not-is_good in
     let d = (goal.at.returns-then-self-len c).After-tallest-below in
     (w.0, w.1, w.2, fits d, shallow (texts_of self) (vec_items self.entries) self.used c.args.parts.now self.root self.levelled w.0 w.1.0 (let h = height d in omega arith), omega arith)
 
 pub returns : goal.returns
 returns c =
     let self = c.args.self.now in
-    let w = passed (goal.at.returns c).Else-not-is-good in
+    let w = passed (goal.at.returns c).Else-not-is_good in
     let d = (goal.at.returns c).After-tallest-below in
     ((w.0, w.1, w.2, fits d, shallow (texts_of self) (vec_items self.entries) self.used c.args.parts.now self.root self.levelled w.0 w.1.0 (let h = height d in omega arith), omega arith), height d, omega arith)

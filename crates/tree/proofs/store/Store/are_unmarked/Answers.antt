@@ -5,17 +5,17 @@ use Rattle.tree.specs.Of.{texts_of}
 use Rattle.tree.proofs.Marking.{unmarked_more}
 use Rattle.tree.proofs.store.Store.are_unmarked.Goals as goal
 
-pub returns-then-is-marked : goal.returns-then-is-marked
-returns-then-is-marked c =
+pub returns-then-is_marked : goal.returns-then-is_marked
+returns-then-is_marked c =
     let self = c.args.self.now in
     let e = unmarked_more (texts_of self) (vec_items self.entries) c.args.parts.now c.loop-i.i (omega arith) in
-    sym (sym c.loop-i.invariant ∙ e ∙ rw (sym c.is-marked.ensures, c.if-is-marked.true) refl)
+    sym (sym c.loop-i.invariant ∙ e ∙ rw (sym c.is_marked.ensures, c.if-is_marked.true) refl)
 
 pub loop-i-preserved : goal.loop-i-preserved
 loop-i-preserved c =
     let self = c.args.self.now in
     let e = unmarked_more (texts_of self) (vec_items self.entries) c.args.parts.now c.loop-i.i (omega arith) in
-    sym (e ∙ rw (sym c.is-marked.ensures, c.if-is-marked.false) refl) ∙ c.loop-i.invariant
+    sym (e ∙ rw (sym c.is_marked.ensures, c.if-is_marked.false) refl) ∙ c.loop-i.invariant
 
 pub returns : goal.returns
 returns c =

@@ -4,8 +4,8 @@ use Rattle.tree.proofs.Admitting.{nodes_low}
 use Rattle.tree.proofs.Adding.{Keeps, added}
 use Rattle.tree.proofs.store.Store.build.Goals as goal
 
-pub overflow-add-below : goal.overflow-add-below
-overflow-add-below c = let h = c.in-Ok.ensures.2 in omega arith
+pub overflow_add-below : goal.overflow_add-below
+overflow_add-below c = let h = c.in-Ok.ensures.2 in omega arith
 
 pub put-requires : goal.put-requires
 put-requires c =
@@ -18,7 +18,7 @@ invariant-of-self c =
     let self = c.args.self.now in
     let a = c.in-Ok.ensures in
     let k : Keeps (state_of self) (vec_items self.entries) self.used = (self.sound, (self.held, (self.single, (self.fitting, (self.levelled, self.rooted))))) in
-    let w = (added c.args.written (state_of self) c.args.shape c.args.parts.now k a.0 c.deref-mut.result.now c.put.new.entries self.entries.items self.entries.len c.in-Ok.height c.kind-of-kind.result c.deref-mut.ensures.value c.kind-of-kind.ensures a.1 c.put.ensures (omega arith)).0 in
+    let w = (added c.args.written (state_of self) c.args.shape c.args.parts.now k a.0 c.deref-mut.result.now c.put.new.entries self.entries.items self.entries.len c.in-Ok.height c.kind_of-kind.result c.deref-mut.ensures.value c.kind_of-kind.ensures a.1 c.put.ensures (omega arith)).0 in
     ((omega (arith, a.0.5), omega arith), (self.roomy, (w.0, (w.1.0, (w.1.1.0, (w.1.1.1.0, (w.1.1.1.1.0, (w.1.1.1.1.1, tt))))))))
 
 pub returns : goal.returns
@@ -26,4 +26,4 @@ returns c =
     let self = c.args.self.now in
     let a = c.in-Ok.ensures in
     let k : Keeps (state_of self) (vec_items self.entries) self.used = (self.sound, (self.held, (self.single, (self.fitting, (self.levelled, self.rooted))))) in
-    (added c.args.written (state_of self) c.args.shape c.args.parts.now k a.0 c.deref-mut.result.now c.put.new.entries self.entries.items self.entries.len c.in-Ok.height c.kind-of-kind.result c.deref-mut.ensures.value c.kind-of-kind.ensures a.1 c.put.ensures (omega arith)).1
+    (added c.args.written (state_of self) c.args.shape c.args.parts.now k a.0 c.deref-mut.result.now c.put.new.entries self.entries.items self.entries.len c.in-Ok.height c.kind_of-kind.result c.deref-mut.ensures.value c.kind_of-kind.ensures a.1 c.put.ensures (omega arith)).1

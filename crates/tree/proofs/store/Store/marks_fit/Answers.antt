@@ -4,12 +4,12 @@ use Rattle.tree.specs.Of.{texts_of}
 use Rattle.tree.proofs.Marking.{first_marked, none_marked}
 use Rattle.tree.proofs.store.Store.marks_fit.Goals as goal
 
-pub returns-then-not-is-empty : goal.returns-then-not-is-empty
-returns-then-not-is-empty c =
+pub returns-then-not-is_empty : goal.returns-then-not-is_empty
+returns-then-not-is_empty c =
     let self = c.args.self.now in
-    rw c.in-Chain.is (c.is-marked.ensures ∙ sym (first_marked (texts_of self) (vec_items self.entries) c.args.parts.now (eqb-false (length c.args.parts.now) 0 (sym c.if-not-is-empty.ensures))))
+    rw c.in-Chain.is (c.is_marked.ensures ∙ sym (first_marked (texts_of self) (vec_items self.entries) c.args.parts.now (eqb-false (length c.args.parts.now) 0 (sym c.if-not-is_empty.ensures))))
 
-pub returns-else-not-is-empty : goal.returns-else-not-is-empty
-returns-else-not-is-empty c =
+pub returns-else-not-is_empty : goal.returns-else-not-is_empty
+returns-else-not-is_empty c =
     let self = c.args.self.now in
-    rw c.in-Chain.is (ap not c.if-not-is-empty.false ∙ sym (none_marked (texts_of self) (vec_items self.entries) c.args.parts.now (eqb-true (length c.args.parts.now) 0 (sym c.if-not-is-empty.ensures))))
+    rw c.in-Chain.is (ap not c.if-not-is_empty.false ∙ sym (none_marked (texts_of self) (vec_items self.entries) c.args.parts.now (eqb-true (length c.args.parts.now) 0 (sym c.if-not-is_empty.ensures))))

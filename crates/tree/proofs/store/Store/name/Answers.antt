@@ -18,10 +18,10 @@ listed_once c =
     let a = c.in-Some.ensures in
     let k : Keeps (state_of self) (vec_items self.entries) self.used = (self.sound, (self.held, (self.single, (self.fitting, (self.levelled, self.rooted))))) in
     let long : length (classes self.names) ≡ c.in-Some.i = length-map (listed self.names) class_of ∙ sym (length-map (listed self.names) text_of) ∙ sym a.0 in
-    let fits : name_fits (state_of self) c.args.text.now c.args.class ≡ true = and_from (Words.name c.args.text.now) (class_fits (state_of self) c.args.class) (sym c.is-name.ensures.decides ∙ c.if-not-is-name.false) (sym c.class-fits.ensures ∙ c.if-not-class-fits.false) in
-    let new : Listable (state_of self) c.args.text.now = (not_found (texts self.names) c.args.text.now c.find.result c.is-some-2.result c.find.ensures c.is-some-2.ensures c.if-is-some-2.false, omega (arith, a.0, a.1)) in
+    let fits : name_fits (state_of self) c.args.text.now c.args.class ≡ true = and_from (Words.name c.args.text.now) (class_fits (state_of self) c.args.class) (sym c.is_name.ensures.decides ∙ c.if-not-is_name.false) (sym c.class_fits.ensures ∙ c.if-not-class_fits.false) in
+    let new : Listable (state_of self) c.args.text.now = (not_found (texts self.names) c.args.text.now c.find.result c.is_some-2.result c.find.ensures c.is_some-2.ensures c.if-is_some-2.false, omega (arith, a.0, a.1)) in
     named (state_of self) c.args.text.now c.args.class c.in-Some.i (texts c.classify.new.self) (classes c.classify.new.self) k
-    (unrooted self.root c.is-some.result c.is-some.ensures c.if-is-some.false, fits, new)
+    (unrooted self.root c.is_some.result c.is_some.ensures c.if-is_some.false, fits, new)
     a.0
     (c.classify.ensures.texts ∙ a.3)
     (c.classify.ensures.classes ∙ rw a.4 (set_last (classes self.names) _ c.args.class c.in-Some.i long))

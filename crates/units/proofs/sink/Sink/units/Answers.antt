@@ -13,10 +13,10 @@ loop-point-preserved c =
     let left = c.in-Some.ensures in
     let e = ap (λ cs. put s (encodes cs)) left.front in
     let split = put-append s (encode c.in-Some.point.value) rest in
-    let step = ap (λ t. put t rest) (c.code_point_escape.ensures.state left.bound) ∙ split ∙ sym e ∙ c.loop-point.invariant.0 in
+    let step = ap (λ t. put t rest) (c.code_point.ensures.state left.bound) ∙ split ∙ sym e ∙ c.loop-point.invariant.0 in
     (search rules, search rules, search rules)
 
 pub returns : goal.returns
 returns c =
-    let e = at_drop_all (λ us. put (state_of c.loop-point.self) (encodes (code_points us))) c.args.us.now c.loop-point.at c.in-default.ensures in
+    let e = at_drop_all (λ us. put (state_of c.loop-point.self) (encodes (code_points us))) c.args.us.now c.loop-point.at c.in_default.ensures in
     record { state = sym e ∙ c.loop-point.invariant.0; lent = search rules }
