@@ -11,7 +11,7 @@ pub loop-c-preserved : goal.loop-c-preserved
 loop-c-preserved c = bare_char _ _ _ c.in-Some.c _ _ c.loop-c.invariant c.in-Some.ensures.steps.0 (c.in_ok-push_char.ensures refl)
 
 pub returns-in_err-push_char : goal.returns-in_err-push_char
-returns-in_err-push_char c = let p = err_from_is_err_and c.from-residual.result c.from-residual.ensures.1 in rw p.1 tt
+returns-in_err-push_char c = let p = err_from_is_err_and c.from_residual.result c.from_residual.ensures.1 in rw p.1 tt
 
 pub returns : goal.returns
 returns c = bare_end _ _ _ c.loop-c.invariant c.in-None.ensures.steps.0.0

@@ -7,7 +7,7 @@ use Rattle.names.proofs.table.Names.class.Goals as goal
 pub returns-in_err-name : goal.returns-in_err-name
 returns-in_err-name c =
     let f = c.in_err-name.ensures.lookup in
-    c.from-residual.ensures ∙ sym (slice_get_past (classes c.args.self.now) c.args.i (omega (arith, f.3, length_parts class_of _ _ c.listed.ensures.records)))
+    c.from_residual.ensures ∙ sym (slice_get_past (classes c.args.self.now) c.args.i (omega (arith, f.3, length_parts class_of _ _ c.listed.ensures.records)))
 
 pub returns : goal.returns
 returns c =

@@ -6,7 +6,7 @@ use Rattle.tree.specs.Calls.{Found, Good, parts, name_listed}
 use Rattle.tree.specs.Of.{state_of, texts_of}
 use Rattle.tree.proofs.Admitting.{unrooted, nodes_low, too_deep, shallow}
 use Rattle.tree.proofs.store.Store.admit.Goals as goal
-use Rattle.tree.proofs.store.Store.admit.Goals.{Else-not-is-good, After-tallest-below}
+use Rattle.tree.proofs.store.Store.admit.Goals.{Else-not-is_good, After-tallest-below}
 
 -- what has passed when the marks are looked at
 passed : (c : goal.Else-not-is_good) → (c.args.self.now.root ≡ None) × Found (state_of c.args.self.now) c.args.shape c.args.parts.now × Good c.args.written (state_of c.args.self.now) c.args.shape c.args.parts.now

@@ -26,11 +26,11 @@ listed_once c =
     (c.classify.ensures.texts ∙ a.3)
     (c.classify.ensures.classes ∙ rw a.4 (set_last (classes self.names) _ c.args.class c.in-Some.i long))
 
-pub invariant-of-self-2 : goal.invariant-of-self-2
-invariant-of-self-2 c =
+pub invariant_of-self-2 : goal.invariant_of-self-2
+invariant_of-self-2 c =
     let self = c.args.self.now in
-    let w = (listed_once (goal.at.invariant-of-self-2 c).After-classify).0 in
-    (self.within, (self.roomy, (w.0, (w.1.0, (w.1.1.0, (w.1.1.1.0, (w.1.1.1.1.0, (w.1.1.1.1.1, tt))))))))
+    let w = (listed_once (goal.at.invariant_of-self-2 c).After-classify).0 in
+    record { within = self.within; roomy = self.roomy; sound = w.0; held = w.1.0; single = w.1.1.0; fitting = w.1.1.1.0; levelled = w.1.1.1.1.0; rooted = w.1.1.1.1.1 }
 
 pub returns : goal.returns
 returns c = (listed_once (goal.at.returns c).After-classify).1
