@@ -1,5 +1,5 @@
 -- The bytes of an escaped code point.
-use Rattle.std.proofs.Common.{◌≡◌, ℕ, ◌/◌, ◌%◌, ◌<◌, ◌≤◌, List, [], ◌∷◌, ◌++◌, codes, refl, ap, ◌∙◌, arith}
+use Rattle.std.proofs.Common.{◌≡◌, ℕ, ◌/◌, ◌%◌, ◌<◌, ◌≤◌, List, [], ◌∷◌, ◌++◌, codes, ap, ◌∙◌, arith}
 use lib.Utf8.{encode, encodes}
 use Rattle.std.specs.Char.{digit_char}
 use Rattle.std.proofs.lemmas.Str.{encode_ascii, encodes-append}

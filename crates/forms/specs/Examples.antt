@@ -1,7 +1,7 @@
 -- Worked examples of printing, which together use every kind of expression and every rule of its text.
 use Rattle.std.specs.Prelude.{◌≡◌, ℕ, ◌*◌, ◌^◌, true, false, List, [], ◌∷◌, pos, negsuc, Some, None, codes, decimal, Option, Float}
 use Rattle.std.specs.Float.{nan, inf, fin}
-use Rattle.syntax.specs.Expr.{Expr, Exprs, number, string, boolean, null, name, array, unary, binary, template, member, index, call, chain, sequence, end, more, done, part}
+use Rattle.syntax.specs.Expr.{Expr, number, string, boolean, null, name, array, unary, binary, template, member, index, call, chain, sequence, end, more, done, part}
 use Rattle.syntax.specs.Operators.{Un, Bin, Numeric, Relation, Equality}
 use Rattle.forms.specs.Form.{spell}
 use Rattle.forms.specs.Show.{show}

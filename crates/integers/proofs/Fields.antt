@@ -6,7 +6,7 @@ use lib.Ieee.{Float, nan, inf, fin, binary64, up, down, odd, of_fields}
 use lib.Ieee.Fits.{down_pos}
 use lib.Ieee.Exact.{HasValue, odd_sign}
 use lib.Ieee.Nearest.{div_same}
-use Rattle.integers.specs.Words.{modulo, whole, to_uint_32, size_modulo}
+use Rattle.integers.specs.Words.{modulo, to_uint_32, size_modulo}
 
 pub size_of_value : (v : Float) (s : Bool) (a c : ℕ) → 0 < c → HasValue v s a c → size_modulo v ≡ a / c % 2 ^ 32
 unfolding size_modulo

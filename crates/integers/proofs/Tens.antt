@@ -1,7 +1,7 @@
 -- Powers of ten up to 10 ^ 22 are floats exactly, and a float is compared with them. Assumes nothing.
 use Rattle.std.proofs.Common.{◌≡◌, ℕ, zero, suc, ◌+◌, ◌*◌, ◌^◌, ◌<◌, ◌≤◌, Bool, true, false, cond, leb, ℤ, pos, sym, refl, ap, ◌∙◌, le_trans, lt_of_lt_of_le, lt_of_le_of_lt, add-zero, mul_assoc, div-lt_iff_lt-mul, suc-add, pow-suc, le-div_iff_mul-le, zero-add, mul-one, add-one, arith, lit<, lit≤, pow_mono, pow-add, shl_lt}
 use native.Mathlib.Nat.{mul-mul-mul_comm, pow-le-pow_right}
-use lib.Ieee.{Float, fin, binary64, up, round, of_int, of_bits, mul, le}
+use lib.Ieee.{Float, fin, binary64, round, of_int, of_bits, mul, le}
 use lib.Ieee.Fits.{down_pos}
 use lib.Ieee.Exact.{HasValue, round_exact}
 use lib.Ieee.Positive.{positive_of_value, mul_at}

@@ -1,12 +1,11 @@
 -- A new node over free parts.
-use Rattle.std.proofs.Common.{◌≡◌, ℕ, zero, suc, ◌+◌, ◌-◌, ◌<◌, ◌≤◌, max, Bool, true, false, cond, not, ◌&&◌, eqb, ltb, ◌≢◌, ◌⊎◌, List, [], ◌∷◌, ◌++◌, length, get_or, drop, set, is_some, Some, None, Option, sym, refl, ap, ◌∙◌, subst, inl, inr, ⊎_elim, arith, length-set, get_or-set_other, get_or-set_same}
+use Rattle.std.proofs.Common.{◌≡◌, ℕ, ◌+◌, ◌<◌, true, false, cond, not, ◌&&◌, ltb, ◌≢◌, ◌⊎◌, List, [], ◌∷◌, length, set, is_some, Some, None, Option, sym, refl, ap, ◌∙◌, subst, inl, inr, ⊎_elim, arith, length-set, get_or-set_other, get_or-set_same}
 use Rattle.std.proofs.lemmas.Bool.{cases_eq, and_parts, and_from, lt-ltb, ltb-true, both_ways, cases_Bool}
 use Rattle.units.specs.declared.span.Span.{Span}
 use Rattle.nodes.specs.declared.kind.Kind.{Kind}
 use Rattle.nodes.specs.declared.kind.Entry.{Entry}
 use Rattle.nodes.specs.declared.shape.Part.{Part}
-use Rattle.syntax.specs.Expr.{Expr}
-use Rattle.nodes.specs.Meaning.{Texts, blank, at, links, links_of, fixed, nums, kids_of, kids, mean, expr, has, distinct, Under, Sound, Held, Single}
+use Rattle.nodes.specs.Meaning.{Texts, blank, at, links, links_of, fixed, nums, kids_of, kids, expr, has, distinct, Sound, Held, Single}
 use Rattle.nodes.specs.Made.{nodes, loose, free}
 use Rattle.nodes.specs.Put.{first_of, tied, linked, new_entry, with_node}
 use Rattle.nodes.proofs.Members.{In, Once, in-has, has_in, once_distinct, in_right}

@@ -1,13 +1,13 @@
 -- The laws of what a node stands for: its unfolding, and what a change leaves alone.
-use Rattle.std.proofs.Common.{◌≡◌, ℕ, zero, suc, ◌<◌, ◌≤◌, Bool, true, false, ltb, List, [], ◌∷◌, ◌++◌, length, get_or, Some, None, Option, sym, refl, ap, ◌∙◌, inl, inr, arith}
+use Rattle.std.proofs.Common.{◌≡◌, ℕ, zero, suc, ◌<◌, ltb, List, [], ◌∷◌, Some, sym, refl, ap, ◌∙◌, inl, inr, arith}
 use Rattle.std.proofs.lemmas.Bool.{and_parts, ltb-true}
 use Rattle.units.specs.declared.span.Span.{Span}
-use Rattle.syntax.specs.Operators.{Un, Bin, unary_of, binary_of}
-use Rattle.syntax.specs.Expr.{Expr, Exprs, Parts}
+use Rattle.syntax.specs.Operators.{unary_of}
+use Rattle.syntax.specs.Expr.{Expr}
 use Rattle.nodes.specs.declared.kind.Kind.{Kind}
 use Rattle.nodes.specs.declared.kind.Kind.TheVariants as K
 use Rattle.nodes.specs.declared.kind.Entry.{Entry}
-use Rattle.nodes.specs.Meaning.{Texts, units_of, at, links, links_of, fixed, nums, kids_of, kids, exprs_of, parts_of, unary_by, binary_by, mean, expr_at, expr, has, Under, Sound, Held}
+use Rattle.nodes.specs.Meaning.{Texts, units_of, at, links, links_of, nums, kids_of, kids, exprs_of, parts_of, unary_by, mean, expr_at, expr, has, Under, Sound, Held}
 use Rattle.nodes.proofs.Members.{In, in-has}
 
 pub exprs_cong : (g h : ℕ → Expr) (ls : List ℕ) → ((x : ℕ) → In x ls → g x ≡ h x) → exprs_of g ls ≡ exprs_of h ls

@@ -1,16 +1,16 @@
 -- The levels of what a shape makes, and the heights that stand for levels.
-use Rattle.std.proofs.Common.{◌≡◌, ℕ, zero, suc, ◌+◌, ◌*◌, ◌<◌, ◌≤◌, max, Bool, true, false, ◌&&◌, leb, ◌⊎◌, List, [], ◌∷◌, length, Some, None, Option, sym, refl, ap, ◌∙◌, subst, inl, inr, ⊎_elim, arith}
+use Rattle.std.proofs.Common.{◌≡◌, ℕ, suc, ◌*◌, ◌<◌, ◌≤◌, max, ◌&&◌, leb, List, [], ◌∷◌, length, Some, None, Option, sym, refl, ap, ◌∙◌, inl, inr, ⊎_elim, arith}
 use native.Mathlib.Nat.{max-zero, le-max_left, le-max_right, max-eq_left, max-eq_right}
 use Rattle.std.specs.Option.{option_map}
 use Rattle.std.proofs.lemmas.Bool.{cases_lt}
 use Rattle.syntax.specs.Operators.{Un, Bin, unary_of, binary_of}
-use Rattle.syntax.specs.Expr.{Expr, Exprs, Parts, levels, levels_all, levels_parts}
+use Rattle.syntax.specs.Expr.{Expr, levels, levels_all, levels_parts}
 use Rattle.nodes.specs.declared.kind.Entry.{Entry}
 use Rattle.nodes.specs.declared.shape.Part.{Part}
 use Rattle.nodes.specs.declared.shape.Shape.{Shape}
 use Rattle.nodes.specs.declared.shape.Shape.TheVariants as S
 use Rattle.nodes.specs.Meaning.{Texts, units_of, name_of, at, expr}
-use Rattle.nodes.specs.Made.{given, exprs, substitutions, none, one, two, some, when, made, deepest, nodes}
+use Rattle.nodes.specs.Made.{given, exprs, substitutions, none, one, two, some, made, deepest, nodes}
 use Rattle.nodes.specs.Put.{tallest}
 use Rattle.nodes.proofs.Members.{In}
 use Rattle.nodes.proofs.Standing.{never, same, when_is}

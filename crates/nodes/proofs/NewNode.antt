@@ -1,13 +1,12 @@
 -- What the entries with a new node keep, and what the new node stands for.
-use Rattle.std.proofs.Common.{◌≡◌, ℕ, suc, ◌+◌, ◌*◌, ◌<◌, ◌≤◌, Bool, true, false, cond, ◌⊎◌, List, [], ◌∷◌, length, Some, None, Option, sym, refl, ap, ◌∙◌, subst, inl, inr, ⊎_elim, arith}
+use Rattle.std.proofs.Common.{◌≡◌, ℕ, ◌+◌, ◌*◌, ◌<◌, true, List, length, Some, sym, refl, ap, ◌∙◌, subst, ⊎_elim, arith}
 use Rattle.std.proofs.lemmas.Bool.{cases_eq}
-use Rattle.units.specs.declared.span.Span.{Span}
 use Rattle.syntax.specs.Expr.{Expr, levels}
 use Rattle.nodes.specs.declared.kind.Entry.{Entry}
 use Rattle.nodes.specs.declared.shape.Part.{Part}
 use Rattle.nodes.specs.declared.shape.Shape.{Shape}
-use Rattle.nodes.specs.Meaning.{Texts, at, links, links_of, kids_of, mean, expr, has, Sound, Held, Single}
-use Rattle.nodes.specs.Made.{given, made, count_fits, nodes, free, deepest}
+use Rattle.nodes.specs.Meaning.{Texts, at, links, links_of, kids_of, mean, expr, Sound, Held, Single}
+use Rattle.nodes.specs.Made.{given, made, count_fits, nodes, free}
 use Rattle.nodes.specs.Put.{first_of, kind_of, tallest, with_node}
 use Rattle.nodes.proofs.Members.{In}
 use Rattle.nodes.proofs.Laws.{mean-cong, unfold_expr}

@@ -1,5 +1,5 @@
 -- The way down from a node, taken upwards by parents.
-use Rattle.std.proofs.Common.{◌≡◌, ℕ, ◌<◌, true, ◌⊎◌, List, [], ◌∷◌, ◌++◌, Some, None, Option, sym, refl, ap, ◌∙◌, subst, inl, inr, ⊎_elim, arith}
+use Rattle.std.proofs.Common.{◌≡◌, ℕ, ◌<◌, true, ◌⊎◌, List, [], ◌∷◌, ◌++◌, Some, None, sym, refl, ◌∙◌, subst, inl, inr, ⊎_elim, arith}
 use Rattle.nodes.specs.declared.kind.Entry.{Entry}
 use Rattle.nodes.specs.Meaning.{at, kids, has, Under, Sound, Held, Path, Reaches}
 use Rattle.nodes.proofs.Laws.{held_under}

@@ -1,5 +1,5 @@
 -- Marks on a spine.
-use Rattle.std.proofs.Common.{◌≡◌, ℕ, Bool, true, false, ◌||◌, List, Some, None, Option, sym, refl, ap, inl, inr, arith}
+use Rattle.std.proofs.Common.{◌≡◌, ℕ, Bool, false, ◌||◌, List, Some, None, Option, sym, refl, ap, inl, arith}
 use Rattle.units.specs.declared.span.Span.{Span}
 use Rattle.syntax.specs.Operators.{Un, Bin, unary_of, binary_of}
 use Rattle.syntax.specs.Expr.{Expr, marked}

@@ -1,17 +1,16 @@
 -- The kind that a shape and its parts make, and the expression that they make.
-use Rattle.std.proofs.Common.{◌≡◌, ℕ, zero, suc, ◌+◌, ◌<◌, ◌≤◌, max, Bool, true, false, cond, ◌&&◌, leb, ◌⊎◌, List, [], ◌∷◌, ◌++◌, length, get_or, drop, Some, None, Option, sym, refl, ap, ◌∙◌, subst, inl, inr, arith}
+use Rattle.std.proofs.Common.{◌≡◌, ℕ, suc, Bool, true, false, ◌&&◌, leb, List, [], ◌∷◌, length, drop, Some, None, Option, sym, refl, ap, ◌∙◌, subst, inl, inr, arith}
 use Rattle.std.specs.Option.{option_map}
 use Rattle.units.specs.declared.span.Span.{Span}
 use Rattle.syntax.specs.Operators.{Un, Bin, unary_of, binary_of}
-use Rattle.syntax.specs.Expr.{Expr, Exprs, Parts, levels, levels_all, levels_parts}
-use Rattle.nodes.specs.declared.kind.Kind.{Kind}
+use Rattle.syntax.specs.Expr.{Expr}
 use Rattle.nodes.specs.declared.kind.Entry.{Entry}
 use Rattle.nodes.specs.declared.shape.Part.{Part}
 use Rattle.nodes.specs.declared.shape.Shape.{Shape}
 use Rattle.nodes.specs.declared.shape.Shape.TheVariants as S
 use Rattle.nodes.specs.Meaning.{Texts, units_of, name_of, at, links, links_of, nums, kids_of, exprs_of, parts_of, unary_by, binary_by, mean, expr}
-use Rattle.nodes.specs.Made.{given, exprs, substitutions, none, one, two, some, when, made, deepest, nodes}
-use Rattle.nodes.specs.Put.{first_of, row, kind_of}
+use Rattle.nodes.specs.Made.{given, exprs, substitutions, none, one, two, some, when, made, nodes}
+use Rattle.nodes.specs.Put.{first_of, kind_of}
 use Rattle.nodes.proofs.Members.{In}
 use Rattle.nodes.proofs.Building.{pairs, nums-pairs}
 

@@ -1,17 +1,13 @@
 -- A new node: what it stands for, and what makes a shape and its parts fit each other.
-use Rattle.std.specs.Prelude.{◌≡◌, ℕ, zero, suc, ◌-◌, ◌<◌, ◌≤◌, max, Bool, true, false, cond, not, ◌&&◌, ◌||◌, List, [], ◌∷◌, length, is_some, Some, None, Option, ◌==◌, nat_le, nat_lt, Float}
+use Rattle.std.specs.Prelude.{ℕ, max, Bool, true, false, cond, not, ◌&&◌, List, [], ◌∷◌, length, is_some, Some, None, Option, ◌==◌, nat_le, nat_lt}
 use Rattle.std.specs.Option.{option_map}
-use Rattle.units.specs.declared.span.Span.{Span}
-use Rattle.syntax.specs.Operators.{Un, Bin, unary_of, binary_of}
+use Rattle.syntax.specs.Operators.{unary_of, binary_of}
 use Rattle.syntax.specs.Expr.{Expr, Exprs, Parts, marked, levels}
-use Rattle.nodes.specs.declared.kind.Row.{Row}
-use Rattle.nodes.specs.declared.kind.Kind.{Kind}
-use Rattle.nodes.specs.declared.kind.Kind.TheVariants as K
 use Rattle.nodes.specs.declared.kind.Entry.{Entry}
 use Rattle.nodes.specs.declared.shape.Part.{Part}
 use Rattle.nodes.specs.declared.shape.Shape.{Shape}
 use Rattle.nodes.specs.declared.shape.Shape.TheVariants as S
-use Rattle.nodes.specs.Meaning.{Texts, units_of, name_of, no_span, at, has, distinct, expr}
+use Rattle.nodes.specs.Meaning.{Texts, units_of, name_of, at, has, expr}
 
 -- what the parts stand for, each with the raw text after it
 abbrev pub given : Texts → List Entry → List Part → List (Expr × List ℕ)

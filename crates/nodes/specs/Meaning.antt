@@ -1,5 +1,5 @@
 -- What a node number stands for: an expression, read off the entries and the texts.
-use Rattle.std.specs.Prelude.{◌≡◌, ℕ, zero, suc, ◌*◌, ◌<◌, Bool, true, false, cond, not, ◌&&◌, ◌||◌, List, [], ◌∷◌, ◌++◌, length, pos, Some, None, Option, ◌==◌, nat_lt, slice_index_or}
+use Rattle.std.specs.Prelude.{◌≡◌, ℕ, zero, suc, ◌<◌, Bool, true, false, not, ◌&&◌, ◌||◌, List, [], ◌∷◌, ◌++◌, Some, None, Option, ◌==◌, nat_lt, slice_index_or}
 use Rattle.units.specs.declared.span.Span.{Span}
 use Rattle.units.specs.declared.span.Text.TheVariants.{Source}
 use Rattle.units.specs.Spans.{part_of}

@@ -1,5 +1,5 @@
 -- A spine runs from a member, an index or a call through its object or callee.
-use Rattle.std.specs.Prelude.{ℕ, Bool, false, ◌||◌, Some, None, Option}
+use Rattle.std.specs.Prelude.{Some, None, Option}
 use Rattle.nodes.specs.declared.kind.Kind.{Kind}
 use Rattle.nodes.specs.declared.kind.Kind.TheVariants as K
 use Rattle.nodes.specs.declared.spine.Link.{Link}

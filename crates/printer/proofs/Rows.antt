@@ -1,12 +1,12 @@
 -- The parts of a row, one after another: how high they are, and their bytes.
-use Rattle.std.proofs.Common.{◌≡◌, ℕ, zero, suc, ◌+◌, ◌-◌, ◌<◌, ◌≤◌, max, ◌⊎◌, List, [], ◌∷◌, ◌++◌, codes, Option, sym, refl, ap, ◌∙◌, subst, inl, inr, arith}
+use Rattle.std.proofs.Common.{◌≡◌, ℕ, suc, ◌+◌, ◌-◌, ◌<◌, ◌≤◌, max, List, [], ◌∷◌, ◌++◌, codes, Option, sym, refl, ap, ◌∙◌, subst, inl, inr, arith}
 use native.Mathlib.Nat.{le-max_left, le-max_right}
 use lib.Ieee.{Float}
 use lib.Utf8.{encodes}
 use Rattle.units.specs.CodePoints.{code_points}
 use Rattle.units.specs.Sinks.{put}
 use Rattle.units.proofs.Sinks.{put-append, put_then}
-use Rattle.syntax.specs.Expr.{Expr, Exprs}
+use Rattle.syntax.specs.Expr.{Expr}
 use Rattle.nodes.specs.declared.kind.Entry.{Entry}
 use Rattle.nodes.specs.Meaning.{Texts, units_of, at, links, nums, exprs_of, parts_of}
 use Rattle.nodes.proofs.Members.{In}

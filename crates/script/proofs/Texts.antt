@@ -1,5 +1,5 @@
 -- Texts read character by character.
-use Rattle.std.proofs.Common.{◌≡◌, ℕ, ◌+◌, ◌<◌, ◌≤◌, ◌≢◌, List, [], ◌∷◌, ◌++◌, length, IfSome, Some, None, Option, sym, refl, ap, ◌∙◌, subst, append_assoc, append-nil, arith, length-append}
+use Rattle.std.proofs.Common.{◌≡◌, ℕ, ◌<◌, ◌≤◌, ◌≢◌, List, [], ◌∷◌, ◌++◌, length, IfSome, Some, None, Option, sym, ap, ◌∙◌, subst, append_assoc, append-nil, arith, length-append}
 use lib.Utf8.{encode}
 use Rattle.std.proofs.lemmas.Str.{length-encode, len_utf8_bounds}
 use Rattle.script.specs.Units.{utf16, Begins, Spelt, Hex, HexUnit, short_escape, Escape, Json}

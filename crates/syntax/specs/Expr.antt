@@ -1,5 +1,5 @@
 -- An expression, by itself: no node numbers, no places in a text. A text is a list of 16-bit units.
-use Rattle.std.specs.Prelude.{ℕ, zero, suc, max, Bool, true, false, ◌||◌, List, Float}
+use Rattle.std.specs.Prelude.{ℕ, suc, max, Bool, false, ◌||◌, List, Float}
 use Rattle.syntax.specs.Operators.{Un, Bin}
 
 mutual

@@ -1,18 +1,17 @@
 -- A tree with a new node keeps what a tree keeps, and says what was built.
-use Rattle.std.proofs.Common.{◌≡◌, ℕ, suc, ◌+◌, ◌<◌, ◌≤◌, Bool, true, false, cond, ◌&&◌, ltb, leb, ◌⊎◌, List, [], ◌∷◌, ◌++◌, length, take, drop, Some, None, Option, sym, refl, ap, ◌∙◌, subst, inl, inr, ⊎_elim, arith, take_at}
+use Rattle.std.proofs.Common.{◌≡◌, ℕ, ◌+◌, ◌<◌, Bool, true, List, [], ◌∷◌, ◌++◌, length, take, drop, sym, refl, ap, ◌∙◌, subst, ⊎_elim, arith, take_at}
 use Rattle.std.proofs.lemmas.Bool.{cases_eq, and_parts, and_from, le-leb}
-use Rattle.units.specs.declared.span.Span.{Span}
 use Rattle.units.specs.Spans.{is_within}
 use Rattle.nodes.specs.declared.kind.Kind.{Kind}
 use Rattle.nodes.specs.declared.kind.Entry.{Entry}
 use Rattle.nodes.specs.declared.shape.Part.{Part}
 use Rattle.nodes.specs.declared.shape.Shape.{Shape}
 use Rattle.nodes.specs.declared.shape.Shape.TheVariants as S
-use Rattle.nodes.specs.Meaning.{Texts, no_span, at, has, Sound, Held, Single}
-use Rattle.nodes.specs.Put.{kind_of, tallest, new_entry, with_node}
+use Rattle.nodes.specs.Meaning.{no_span, at, Sound, Held, Single}
+use Rattle.nodes.specs.Put.{kind_of, tallest, with_node}
 use Rattle.nodes.proofs.Building.{Afters, new_at, old_kind, old_after, old_parents, length_new}
 use Rattle.nodes.proofs.NewNode.{new_sound, new_held, new_single, new_others, new_stands, new_levels}
-use Rattle.tree.specs.State.{State, stands_for, kind_fits, Fitting, Levelled, Rooted}
+use Rattle.tree.specs.State.{State, kind_fits, Fitting, Levelled, Rooted}
 use Rattle.tree.specs.Calls.{name_listed, RawParts, ShapeFits, Buildable, Built}
 
 -- the kind of a new node refers to what is there

@@ -1,11 +1,11 @@
 -- Marks, read off the entries.
-use Rattle.std.proofs.Common.{◌≡◌, ℕ, ◌+◌, ◌<◌, Bool, true, false, not, ◌&&◌, ◌||◌, List, [], ◌∷◌, length, drop, Some, None, Option, sym, refl, ap, ◌∙◌, subst, arith}
-use Rattle.std.proofs.lemmas.List.{at_drop_more, at_drop_all}
-use Rattle.syntax.specs.Expr.{Expr, marked}
+use Rattle.std.proofs.Common.{◌≡◌, ℕ, ◌+◌, ◌<◌, Bool, true, false, not, ◌&&◌, ◌||◌, List, [], ◌∷◌, length, drop, Some, None, Option, sym, refl, ap, ◌∙◌, arith}
+use Rattle.std.proofs.lemmas.List.{at_drop_more}
+use Rattle.syntax.specs.Expr.{marked}
 use Rattle.nodes.specs.declared.kind.Entry.{Entry}
 use Rattle.nodes.specs.declared.spine.Link.{Link}
 use Rattle.nodes.specs.declared.shape.Part.{Part}
-use Rattle.nodes.specs.Meaning.{Texts, at, links_of, mean, expr, Sound}
+use Rattle.nodes.specs.Meaning.{Texts, at, expr, Sound}
 use Rattle.nodes.specs.Made.{given, unmarked, marked_first}
 use Rattle.nodes.specs.Put.{no_part, node_at}
 use Rattle.nodes.specs.Spine.{link_of}

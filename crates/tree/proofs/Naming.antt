@@ -1,15 +1,14 @@
 -- One name more leaves every node what it was.
-use Rattle.std.proofs.Common.{◌≡◌, ℕ, suc, ◌+◌, ◌*◌, ◌<◌, ◌≤◌, Bool, true, false, ◌&&◌, ltb, List, [], ◌∷◌, ◌++◌, length, get_or, set, is_some, Some, None, Option, sym, refl, ap, ◌∙◌, subst, arith, length-append}
+use Rattle.std.proofs.Common.{◌≡◌, ℕ, ◌*◌, ◌<◌, Bool, true, false, List, [], ◌∷◌, ◌++◌, length, set, is_some, Some, None, Option, sym, refl, ap, ◌∙◌, arith, length-append}
 use Rattle.std.proofs.lemmas.Bool.{and_parts, and_from, ltb-true, lt-ltb}
 use Rattle.std.proofs.lemmas.List.{get_or_append_left}
 use Rattle.units.specs.declared.span.Span.{Span}
 use Rattle.units.specs.Spans.{is_within}
-use Rattle.syntax.specs.Operators.{unary_of, binary_of}
 use Rattle.syntax.specs.Expr.{Expr, Parts, levels}
 use Rattle.nodes.specs.declared.kind.Kind.{Kind}
 use Rattle.nodes.specs.declared.kind.Kind.TheVariants as K
 use Rattle.nodes.specs.declared.kind.Entry.{Entry}
-use Rattle.nodes.specs.Meaning.{Texts, units_of, at, links_of, parts_of, mean, expr, Sound}
+use Rattle.nodes.specs.Meaning.{Texts, units_of, at, links_of, parts_of, expr, Sound}
 use Rattle.nodes.proofs.Laws.{Same, frame, under}
 use Rattle.names.specs.declared.table.Class.{Class}
 use Rattle.names.specs.Table.{NotBefore, FirstAt}

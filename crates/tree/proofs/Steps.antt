@@ -1,9 +1,8 @@
 -- A step of a recursion over a tree: what a node stands for, and that its parts lie lower.
-use Rattle.std.proofs.Common.{◌≡◌, ℕ, ◌<◌, Bool, true, List, sym, ap, ◌∙◌, subst}
-use Rattle.syntax.specs.Expr.{Expr}
+use Rattle.std.proofs.Common.{◌≡◌, ℕ, ◌<◌, List, sym, ap, ◌∙◌, subst}
 use Rattle.nodes.specs.declared.kind.Kind.{Kind}
 use Rattle.nodes.specs.declared.kind.Entry.{Entry}
-use Rattle.nodes.specs.Meaning.{Texts, at, links_of, kids_of, kids, mean, expr, Sound}
+use Rattle.nodes.specs.Meaning.{Texts, at, links_of, kids_of, mean, expr, Sound}
 use Rattle.nodes.proofs.Members.{In}
 use Rattle.nodes.proofs.Laws.{unfold_expr, under}
 

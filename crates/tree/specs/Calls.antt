@@ -1,5 +1,5 @@
 -- The calls on a tree: when each is refused, and what it leaves.
-use Rattle.std.specs.Prelude.{◌≡◌, ℕ, suc, ◌+◌, ◌<◌, ◌≤◌, Bool, true, false, cond, not, ◌&&◌, ◌⊎◌, List, [], ◌∷◌, ◌++◌, length, drop, is_some, Some, None, Option, ◌≢◌, nat_lt, slice_index_or, Float}
+use Rattle.std.specs.Prelude.{◌≡◌, ℕ, suc, ◌<◌, ◌≤◌, Bool, true, false, cond, ◌&&◌, List, [], ◌∷◌, ◌++◌, length, drop, is_some, Some, None, Option, ◌≢◌, nat_lt, slice_index_or, Float}
 use Rattle.units.specs.declared.span.Span.{Span}
 use Rattle.units.specs.Spans.{is_within}
 use Rattle.template.specs.Raw.{Raw}
@@ -11,7 +11,7 @@ use Rattle.syntax.specs.Expr.{Expr, marked}
 use Rattle.nodes.specs.declared.shape.Part.{Part}
 use Rattle.nodes.specs.declared.shape.Shape.{Shape}
 use Rattle.nodes.specs.declared.shape.Shape.TheVariants as S
-use Rattle.nodes.specs.Meaning.{Texts, units_of, at, has}
+use Rattle.nodes.specs.Meaning.{units_of, at, has}
 use Rattle.nodes.specs.Made.{given, made, count_fits, marks_fit, deepest, nodes, loose, free}
 use Rattle.forms.specs.Printed.{printed}
 use Rattle.tree.specs.declared.refusal.Refusal.{Refusal}

@@ -1,6 +1,5 @@
 -- What a tree holds, as its calls see it.
-use Rattle.std.specs.Prelude.{◌≡◌, ℕ, ◌*◌, ◌<◌, ◌≤◌, Bool, true, false, ◌&&◌, List, [], ◌∷◌, length, Some, None, Option, nat_lt}
-use Rattle.units.specs.declared.span.Span.{Span}
+use Rattle.std.specs.Prelude.{◌≡◌, ℕ, ◌*◌, ◌<◌, Bool, true, ◌&&◌, List, Some, None, Option, nat_lt}
 use Rattle.units.specs.Spans.{is_within}
 use Rattle.names.specs.declared.table.Class.{Class}
 use Rattle.syntax.specs.Expr.{Expr, levels}

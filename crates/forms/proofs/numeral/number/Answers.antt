@@ -1,4 +1,4 @@
-use Rattle.std.proofs.Common.{◌≡◌, true, false, sym, ◌∙◌, rules}
+use Rattle.std.proofs.Common.{true, false, sym, ◌∙◌, rules}
 use Rattle.forms.proofs.Numerals.{number_nan, number_infinite, number_finite}
 use Rattle.forms.proofs.numeral.number.Goals as goal
 use Rattle.forms.proofs.numeral.number.Goals.{then-negative, else-negative, then-negative-2, else-negative-2}

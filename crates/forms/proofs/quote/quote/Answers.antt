@@ -1,4 +1,4 @@
-use Rattle.std.proofs.Common.{◌≡◌, ◌+◌, ◌++◌, drop, codes, sym, ap, ◌∙◌, rules}
+use Rattle.std.proofs.Common.{◌+◌, drop, codes, sym, ap, ◌∙◌, rules}
 use lib.Utf8.{encodes}
 use Rattle.std.proofs.lemmas.List.{at_drop_all}
 use Rattle.units.specs.CodePoints.{code_points}

@@ -1,4 +1,4 @@
-use Rattle.std.proofs.Common.{◌≡◌, ◌-◌, ◌≤◌, ◌++◌, length, drop, codes}
+use Rattle.std.proofs.Common.{◌≡◌, ◌-◌, ◌≤◌, length, drop}
 use lib.Utf8.{encodes}
 use Rattle.units.specs.CodePoints.{code_points}
 use Rattle.units.specs.Sinks.{put, state_of, lender_of}

@@ -1,7 +1,7 @@
-use Rattle.std.proofs.Common.{◌≡◌, ℕ, ◌+◌, ◌-◌, not, ◌&&◌, List, drop, refl, ap, ◌∙◌, arith}
+use Rattle.std.proofs.Common.{◌≡◌, ℕ, ◌+◌, ◌-◌, drop, refl, ap, ◌∙◌, arith}
 use lib.Seq.{drop-length}
 use Rattle.nodes.specs.Meaning.{has}
-use Rattle.nodes.specs.Made.{loose, nodes}
+use Rattle.nodes.specs.Made.{nodes}
 use Rattle.nodes.specs.Put.{node_at}
 use Rattle.nodes.proofs.Rows.{free_more}
 use Rattle.nodes.proofs.check.are_free.Goals as goal

@@ -1,4 +1,4 @@
-use Rattle.std.proofs.Common.{◌≡◌, refl, ◌∙◌, arith}
+use Rattle.std.proofs.Common.{refl, ◌∙◌, arith}
 use lib.Seq.{drop-length}
 use Rattle.nodes.proofs.Rows.{tallest_more}
 use Rattle.nodes.proofs.check.tallest.Goals as goal

@@ -1,4 +1,4 @@
-use Rattle.std.proofs.Common.{◌≡◌, refl, arith}
+use Rattle.std.proofs.Common.{refl, arith}
 use lib.Seq.{drop-length}
 use Rattle.nodes.proofs.Rows.{link_more}
 use Rattle.nodes.proofs.put.link.Goals as goal

@@ -1,4 +1,4 @@
-use Rattle.std.proofs.Common.{◌≡◌, refl}
+use Rattle.std.proofs.Common.{refl}
 use Rattle.nodes.specs.Put.{with_node}
 use Rattle.nodes.proofs.put.put.Goals as goal
 

@@ -1,4 +1,4 @@
-use Rattle.std.proofs.Common.{◌≡◌, sym, refl, ◌∙◌, length-drop}
+use Rattle.std.proofs.Common.{refl, length-drop}
 use Rattle.nodes.proofs.put.row_at.Goals as goal
 
 pub returns : goal.returns

@@ -1,6 +1,6 @@
 use Rattle.std.proofs.Common.{◌≡◌, true, false, get_or, sym, ◌∙◌, arith}
 use Rattle.std.specs.Char.{is_ascii_digit}
-use Rattle.script.proofs.Capped.{more, stop, done, start}
+use Rattle.script.proofs.Capped.{more, stop, done}
 use Rattle.script.proofs.numbers.integer.Goals as goal
 
 pub returns-then-not-is_ascii_digit : goal.returns-then-not-is_ascii_digit

@@ -1,4 +1,3 @@
-use Rattle.std.proofs.Common.{sym}
 use Rattle.script.proofs.quoted.hex_digit.Goals as goal
 
 pub returns : goal.returns

@@ -1,4 +1,4 @@
-use Rattle.std.proofs.Common.{◌≡◌, ◌+◌, ◌-◌, ◌/◌, ◌%◌, cond, [], ◌∷◌, append_assoc}
+use Rattle.std.proofs.Common.{◌≡◌, ◌+◌, ◌-◌, ◌/◌, ◌%◌, [], ◌∷◌, append_assoc}
 use Rattle.std.proofs.lemmas.Bool.{cond-false, le-ltb}
 use Rattle.script.specs.Units.{utf16}
 use Rattle.script.proofs.quoted.push_char.Goals as goal

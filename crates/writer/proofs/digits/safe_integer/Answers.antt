@@ -1,5 +1,5 @@
 use Rattle.std.proofs.Common.{◌≡◌, ℕ, T, pos, Some, None, Option, sym, refl, ap, ◌∙◌, subst, arith}
-use lib.Ieee.{Float, binary64, fits, of_bits, of_int, to_bits, to_unsigned}
+use lib.Ieee.{Float, binary64, fits, of_bits, of_int, to_bits}
 use lib.Ieee.Bits.{of_bits-to_bits}
 use lib.Ieee.Fits.{of_int-fits}
 use Rattle.writer.specs.Texts.{integer}

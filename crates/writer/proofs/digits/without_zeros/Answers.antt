@@ -1,4 +1,4 @@
-use Rattle.std.proofs.Common.{◌≡◌, ℕ, ◌+◌, ◌-◌, ◌%◌, ◌<◌, sym, ap, ◌∙◌, arith}
+use Rattle.std.proofs.Common.{◌≡◌, ℕ, ◌+◌, ◌-◌, ◌%◌, ◌<◌, ◌∙◌, arith}
 use Rattle.writer.specs.Texts.{final_zeros}
 use Rattle.writer.specs.Zeros.{zeros_none, fewer, front_more, count_more}
 use Rattle.writer.proofs.digits.without_zeros.Goals as goal

@@ -1,14 +1,14 @@
-use Rattle.std.proofs.Common.{◌≡◌, ℕ, ◌-◌, ◌<◌, ◌≤◌, List, ◌∷◌, ◌++◌, codes, Option, sym, refl, ap, ◌∙◌, inl, inr, arith, rules}
+use Rattle.std.proofs.Common.{◌≡◌, ℕ, ◌-◌, List, ◌∷◌, ◌++◌, codes, Option, sym, refl, ap, ◌∙◌, inl, inr, arith, rules}
 use lib.Ieee.{Float}
 use lib.Utf8.{encodes}
 use Rattle.units.specs.CodePoints.{code_points}
 use Rattle.units.specs.Sinks.{put, state_of, lender_of}
 use Rattle.units.proofs.Sinks.{put_then}
 use Rattle.syntax.specs.Expr.{Expr}
-use Rattle.syntax.specs.Operators.{unary_of, binary_of, bin_text}
+use Rattle.syntax.specs.Operators.{unary_of, binary_of}
 use Rattle.nodes.specs.Meaning.{units_of, at, links, nums, row_of, exprs_of, parts_of}
 use Rattle.nodes.proofs.Members.{In, in-has, has_in}
-use Rattle.forms.specs.declared.parens.Place.TheVariants.{Bare, Argument, Operand, Object}
+use Rattle.forms.specs.declared.parens.Place.TheVariants.{Operand, Object}
 use Rattle.forms.specs.Parens.{in_parens}
 use Rattle.forms.specs.Quoted.{quoted}
 use Rattle.forms.specs.Show.{dot, mark}
@@ -16,7 +16,7 @@ use Rattle.forms.specs.Printed.{printed, printed_at, printed_arguments, printed_
 use Rattle.printer.specs.Views.{texts_of, expr_in, parts_in}
 use Rattle.forms.proofs.Bytes.{printed_parens, printed-boolean, printed-null, printed-array, printed-unary, printed-binary, printed-template, printed-member, printed-index, printed-call, printed-sequence}
 use Rattle.printer.proofs.Reading.{read, unary_none, unary_some, binary_none, binary_some}
-use Rattle.printer.proofs.Rows.{above, above_each, above_least, above_some, part_here, parts_next, further_next, substitution_next, rest_in, first_in, arguments_some, arguments_none}
+use Rattle.printer.proofs.Rows.{above_each, above_least, above_some, part_here, parts_next, further_next, substitution_next, rest_in, first_in, arguments_some, arguments_none}
 use Rattle.printer.proofs.view.View.+bare_binary_call_further_index_node_template_unary.Goals as goal
 use Rattle.printer.proofs.view.View.+bare_binary_call_further_index_node_template_unary.Goals.{call-then-arguments-gt0, call-else-arguments-gt0}
 

@@ -1,4 +1,4 @@
-use Rattle.std.proofs.Common.{◌≡◌, Some, None, subst, rules}
+use Rattle.std.proofs.Common.{Some, None, subst, rules}
 use native.Mathlib.Nat.{sub-zero}
 use lib.Ieee.{Float}
 use Rattle.writer.specs.Writers.{Wrote}

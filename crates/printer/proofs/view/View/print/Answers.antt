@@ -1,5 +1,5 @@
-use Rattle.std.proofs.Common.{◌≡◌, ℕ, ◌-◌, ◌^◌, ◌<◌, ◌≤◌, min, List, ◌++◌, length, drop, sym, refl, ap, ◌∙◌, arith, rules}
-use Rattle.units.specs.Sinks.{put, state_of}
+use Rattle.std.proofs.Common.{◌≡◌, ℕ, ◌-◌, ◌^◌, ◌<◌, ◌≤◌, min, List, ◌++◌, length, drop, sym, ap, ◌∙◌, arith, rules}
+use Rattle.units.specs.Sinks.{put}
 use Rattle.units.proofs.Sinks.{put_count, put_fits}
 use Rattle.forms.specs.Printed.{printed}
 use Rattle.printer.specs.Views.{expr_in}

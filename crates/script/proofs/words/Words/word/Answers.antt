@@ -1,4 +1,4 @@
-use Rattle.std.proofs.Common.{◌≡◌, false, ◌∷◌, ◌++◌, length, Some, None, ap, ◌∙◌, arith, length-append}
+use Rattle.std.proofs.Common.{◌≡◌, false, ◌∷◌, length, Some, None, ap, ◌∙◌, arith, length-append}
 use Rattle.std.proofs.lemmas.Str.Pattern.{split_parts}
 use Rattle.script.specs.Words.{over, to_space, past_space}
 use Rattle.script.proofs.Spaces.{word_at, to_space_lem, past_space_lem, to_end, past_end, unspaced-length, over_some}

@@ -1,8 +1,8 @@
-use Rattle.std.proofs.Common.{◌≡◌, ℕ, true, false, List, None, vec_items, sym, refl, ap, ◌∙◌, subst, arith}
+use Rattle.std.proofs.Common.{◌≡◌, true, List, None, vec_items, sym, ap, ◌∙◌, arith}
 use Rattle.nodes.specs.declared.kind.Entry.{Entry}
 use Rattle.nodes.specs.Made.{free, marks_fit}
 use Rattle.nodes.specs.Put.{tallest}
-use Rattle.tree.specs.Calls.{Found, Good, parts, name_listed}
+use Rattle.tree.specs.Calls.{Found, Good, parts}
 use Rattle.tree.specs.Of.{state_of, texts_of}
 use Rattle.tree.proofs.Admitting.{unrooted, nodes_low, too_deep, shallow}
 use Rattle.tree.proofs.store.Store.admit.Goals as goal

@@ -1,9 +1,9 @@
-use Rattle.std.proofs.Common.{◌≡◌, ℕ, ◌+◌, ◌<◌, List, ◌∷◌, length, get_or, drop, MatchBool, sym, subst, arith}
+use Rattle.std.proofs.Common.{ℕ, ◌+◌, ◌<◌, List, length, get_or, drop, sym, subst, arith}
 use Rattle.std.proofs.lemmas.List.{drop_more, drop_all}
 use Rattle.nodes.specs.declared.shape.Part.{Part}
 use Rattle.nodes.specs.Put.{no_part}
 use Rattle.tree.specs.State.{State}
-use Rattle.tree.specs.Calls.{RawPart, RawParts, Not}
+use Rattle.tree.specs.Calls.{RawPart, RawParts}
 use Rattle.tree.specs.Of.{state_of}
 use Rattle.tree.proofs.store.Store.are_raw.Goals as goal
 

@@ -1,4 +1,4 @@
-use Rattle.std.proofs.Common.{◌≡◌, true, false, not, ◌&&◌, vec_items, sym, refl, ap, ◌∙◌, arith}
+use Rattle.std.proofs.Common.{vec_items, sym, refl, ◌∙◌, arith}
 use Rattle.std.proofs.lemmas.List.{at_drop_all}
 use Rattle.nodes.specs.Made.{given, unmarked}
 use Rattle.tree.specs.Of.{texts_of}

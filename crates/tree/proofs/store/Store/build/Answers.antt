@@ -1,4 +1,4 @@
-use Rattle.std.proofs.Common.{◌≡◌, ℕ, ◌<◌, List, length, vec_items, sym, refl, ap, ◌∙◌, subst, arith}
+use Rattle.std.proofs.Common.{vec_items, arith}
 use Rattle.tree.specs.Of.{state_of}
 use Rattle.tree.proofs.Admitting.{nodes_low}
 use Rattle.tree.proofs.Adding.{Keeps, added}

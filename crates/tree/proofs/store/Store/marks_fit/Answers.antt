@@ -1,4 +1,4 @@
-use Rattle.std.proofs.Common.{◌≡◌, not, length, vec_items, sym, refl, ap, ◌∙◌}
+use Rattle.std.proofs.Common.{not, length, vec_items, sym, ap, ◌∙◌}
 use Rattle.std.proofs.lemmas.Bool.{eqb-true, eqb-false}
 use Rattle.tree.specs.Of.{texts_of}
 use Rattle.tree.proofs.Marking.{first_marked, none_marked}
