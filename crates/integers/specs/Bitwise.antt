@@ -11,7 +11,7 @@ abbrev pub complement : ℤ → ℤ
 complement (pos n) = negsuc n
 complement (negsuc n) = pos n
 
--- 6.1.6.1.2 Number::bitwise_not
+-- 6.1.6.1.2 Number::bitwiseNOT
 unfoldable pub bitwise_not : Float → Float
 bitwise_not x = number_of (complement (to_int_32 x))
 
@@ -19,14 +19,14 @@ bitwise_not x = number_of (complement (to_int_32 x))
 unfoldable pub number_bitwise_op : (ℕ → ℕ → ℕ) → Float → Float → Float
 number_bitwise_op op x y = number_of (signed (op (bits (to_int_32 x)) (bits (to_int_32 y))))
 
--- 6.1.6.1.17 Number::bitwise_and
+-- 6.1.6.1.17 Number::bitwiseAND
 abbrev pub bitwise_and : Float → Float → Float
 bitwise_and = number_bitwise_op bit_and
 
--- 6.1.6.1.18 Number::bitwise_xor
+-- 6.1.6.1.18 Number::bitwiseXOR
 abbrev pub bitwise_xor : Float → Float → Float
 bitwise_xor = number_bitwise_op bit_xor
 
--- 6.1.6.1.19 Number::bitwise_or
+-- 6.1.6.1.19 Number::bitwiseOR
 abbrev pub bitwise_or : Float → Float → Float
 bitwise_or = number_bitwise_op bit_or

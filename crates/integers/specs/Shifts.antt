@@ -12,14 +12,14 @@ abbrev pub extended : ℤ → ℕ → ℤ
 extended (pos n) k = pos (n / 2 ^ k)
 extended (negsuc n) k = negsuc (n / 2 ^ k)
 
--- 6.1.6.1.9 Number::left_shift: the bits that pass the 32nd are dropped
+-- 6.1.6.1.9 Number::leftShift: the bits that pass the 32nd are dropped
 unfoldable pub left_shift : Float → Float → Float
 left_shift x y = number_of (signed (bits (to_int_32 x) * 2 ^ shift_count y % 2 ^ 32))
 
--- 6.1.6.1.10 Number::signed_right_shift
+-- 6.1.6.1.10 Number::signedRightShift
 unfoldable pub signed_right_shift : Float → Float → Float
 signed_right_shift x y = number_of (extended (to_int_32 x) (shift_count y))
 
--- 6.1.6.1.11 Number::unsigned_right_shift: a zero-filling shift
+-- 6.1.6.1.11 Number::unsignedRightShift: a zero-filling shift
 unfoldable pub unsigned_right_shift : Float → Float → Float
 unsigned_right_shift x y = number_of (pos (to_uint_32 x / 2 ^ shift_count y))

@@ -87,7 +87,7 @@ fn link(entries: &mut [Entry], parts: &[Part], n: u16)
 
 // Puts a new node at n over the parts.
 pub fn put(entries: &mut [Entry], n: u16, kind: Kind, height: u16, parts: &[Part])
-    requires { (n < length entries.old) × (((k : ℕ) → k < length parts.now → node_at parts.now k < length entries.old)) }
+    requires { (n < length entries.old) × ((k : ℕ) → k < length parts.now → node_at parts.now k < length entries.old) }
     ensures { entries.new ≡ with_node entries.old n kind height parts.now }
 {
     link(entries, parts, n);

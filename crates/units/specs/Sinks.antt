@@ -11,7 +11,7 @@ state_of s = (s.out.now, s.len)
 abbrev pub lender_of : Sink → GName
 lender_of s = s.out.ghost_name
 
--- past the end `set` changes nothing; the count stays at its largest value
+-- past the end `slice_set` changes nothing; the count stays at its largest value
 abbrev pub put_byte : List ℕ × ℕ → ℕ → List ℕ × ℕ
 put_byte s b = (slice_set s.0 s.1 b, min (suc s.1) (2 ^ 64 - 1))
 
