@@ -1,11 +1,11 @@
 -- Names and keywords (ECMA-262, 12.7), on texts of ASCII letters. A text is a list of 16-bit units.
 use Rattle.std.specs.Prelude.{ℕ, Bool, true, false, not, ◌&&◌, ◌||◌, List, [], ◌∷◌, length, codes, ◌==◌, nat_le}
+use Rattle.std.specs.List.{list_any, list_all}
 use Rattle.std.specs.Str.{bytes_eq as same}
 
 -- whether the text is one of the words
 abbrev pub among : List ℕ → List (List ℕ) → Bool
-among text [] = false
-among text (word ∷ words) = same text word || among text words
+among text words = list_any (same text) words
 
 -- 12.7.2, ReservedWord
 abbrev pub reserved_words : List (List ℕ)
@@ -31,8 +31,7 @@ abbrev pub part : ℕ → Bool
 part unit = start unit || between 48 57 unit
 
 abbrev pub parts : List ℕ → Bool
-parts [] = true
-parts (unit ∷ units) = part unit && parts units
+parts units = list_all part units
 
 -- 12.7, IdentifierName
 abbrev pub identifier_name : List ℕ → Bool

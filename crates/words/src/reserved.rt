@@ -1,32 +1,21 @@
-ghost use Rattle.std.specs.Prelude.{◌≡◌, map};
+ghost use Rattle.std.specs.Prelude.{◌≡◌};
+ghost use Rattle.std.specs.List.{list_any};
 ghost use Rattle.std.specs.Str.{bytes_eq as same};
-ghost use Rattle.words.specs.Words.{among, reserved};
+ghost use Rattle.words.specs.Words.{reserved};
 
 // Whether the units spell the word, which is ASCII.
 fn spells(units: &[u16], word: &[u8]) -> bool
     ensures { result ≡ same units.now word.now }
 {
-    if units.len() != word.len() {
-        return false;
-    }
-    for i in 0..units.len() {
-        if units[i] != word[i] as u16 {
-            return false;
-        }
-    }
-    true
+    units.len() == word.len()
+        && units.iter().zip(word).all(|(unit, byte)| *unit == u16::from(*byte))
 }
 
 // Whether the units spell one of the words.
 fn spells_one(units: &[u16], words: &[&[u8]]) -> bool
-    ensures { result ≡ among units.now (map (λ w. w.now) words.now) }
+    ensures { result ≡ list_any (λ word. same units.now word.now) words.now }
 {
-    for word in words {
-        if spells(units, *word) {
-            return true;
-        }
-    }
-    false
+    words.iter().any(|word| spells(units, word))
 }
 
 // Whether the text is a reserved word. A word is looked for among those with its first letter.

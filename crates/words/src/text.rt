@@ -29,12 +29,7 @@ pub fn is_identifier(text: &[u16]) -> bool
     if text.len() > MAX_UNITS || !is_start(*first) {
         return false;
     }
-    for unit in rest {
-        if !is_part(*unit) {
-            return false;
-        }
-    }
-    true
+    rest.iter().all(|unit| is_part(*unit))
 }
 
 // Whether the text may be a variable's name.

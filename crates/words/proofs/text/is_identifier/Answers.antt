@@ -1,7 +1,10 @@
-use Rattle.std.proofs.Common.{◌≡◌, ℕ, ◌+◌, ◌-◌, ◌<◌, ◌≤◌, Bool, true, ◌&&◌, List, length, get_or, take, drop, sym, refl, ap, ◌∙◌, arith, ltb-false}
-use Rattle.std.proofs.lemmas.List.{at_drop_more, at_drop_all}
+use Rattle.std.proofs.Common.{◌≡◌, ℕ, ◌-◌, ◌<◌, ◌≤◌, Bool, true, ◌&&◌, List, length, get_or, take, drop, sym, refl, ap, ◌∙◌, arith, rules, ltb-false}
+use borrow.Author.Tests.{tests}
+use Rattle.std.specs.List.{list_all}
 use Rattle.std.proofs.lemmas.Slice.{first_rest}
 use Rattle.std.proofs.lemmas.Bool.{le-leb}
+use Rattle.std.proofs.lemmas.Iterator.{YieldsList-from_slice}
+use Rattle.std.proofs.lemmas.Iterator.Search.{all_from_yields_List}
 use Rattle.words.specs.Words.{start, part, parts, identifier, identifier_name}
 use Rattle.words.proofs.text.is_identifier.Goals as goal
 
@@ -15,18 +18,7 @@ rest_decides text r h l s e =
     let n : identifier_name text ≡ (start (get_or text 0 0) && parts (tail text)) = ap identifier_name (first_rest text 0 h) in
     e ∙ sym (ap (λ b. b && identifier_name text) (le-leb (length text) 64 l) ∙ n ∙ t)
 
-step : (us : List ℕ) (i : ℕ) (t : Bool) → i < length us → t ≡ part (get_or us i 0) → parts (drop i us) ≡ (t && parts (drop (i + 1) us))
-step us i t h e = at_drop_more parts us i 0 h ∙ ap (λ b. b && parts (drop (i + 1) us)) (sym e)
-
-pub returns-then-not-is_part : goal.returns-then-not-is_part
-returns-then-not-is_part c =
-    rest_decides c.args.text.now _ (omega (arith, ltb-false)) (omega arith) c.if-not-is_start.ensures
-    (sym (step (tail c.args.text.now) c.loop-unit.unit-index _ (omega arith) c.if-not-is_part.ensures) ∙ c.loop-unit.invariant)
-
-pub loop-unit-preserved : goal.loop-unit-preserved
-loop-unit-preserved c = sym (step (tail c.args.text.now) c.loop-unit.unit-index _ (omega arith) c.if-not-is_part.ensures) ∙ c.loop-unit.invariant
-
 pub returns : goal.returns
 returns c =
     rest_decides c.args.text.now _ (omega (arith, ltb-false)) (omega arith) c.if-not-is_start.ensures
-    (sym (at_drop_all parts (tail c.args.text.now) c.loop-unit.unit-index (omega arith)) ∙ c.loop-unit.invariant)
+    (all_from_yields_List part _ _ _ c.all.ensures.ran (YieldsList-from_slice (tail c.args.text.now) cc) (λ x b q k. search (rules, tests)))
