@@ -8,7 +8,10 @@ fn spells(units: &[u16], word: &[u8]) -> bool
     ensures { result ≡ same units.now word.now }
 {
     units.len() == word.len()
-        && units.iter().zip(word).all(|(unit, byte)| *unit == u16::from(*byte))
+        && units
+            .iter()
+            .zip(word)
+            .all(|(unit, byte)| *unit == u16::from(*byte))
 }
 
 // Whether the units spell one of the words.
