@@ -7,7 +7,7 @@ use Rattle.std.proofs.lemmas.Str.{encode_ascii}
 use Rattle.std.specs.Float.{float_with_sign}
 use Rattle.writer.specs.Literal.{all_digits, read_on, decimal_digits, decimal_integer, before_e, after_e, exponent, scaled, literal}
 use Rattle.writer.specs.Writers.{Exact, Wrote}
-use Rattle.writer.specs.declared.number_writer.NumberText.{NumberText}
+use Rattle.arrayvec.specs.ArrayString.{ArrayString}
 use Rattle.forms.specs.Numerals.{Gives}
 use Rattle.forms.specs.Show.{written}
 
@@ -65,15 +65,15 @@ literal_ascii t n h =
     parts_ascii t p.1 (integer_all (before_e t) p.0 p.2) p.3
 
 -- the bytes in what a writer gives
-abbrev pub bytes_in : Option NumberText → List ℕ
+abbrev pub bytes_in : Option ArrayString → List ℕ
 bytes_in None = []
-bytes_in (Some t) = take t.len t.bytes
+bytes_in (Some t) = t.bytes
 
-wrote_bytes : (o : Option (List ℕ)) (r : Option NumberText) → Wrote o r → written o ≡ bytes_in r
+wrote_bytes : (o : Option (List ℕ)) (r : Option ArrayString) → Wrote o r → written o ≡ bytes_in r
 wrote_bytes None None h = refl
 wrote_bytes None (Some t) h = absurd h
 wrote_bytes (Some s) None h = absurd h
-wrote_bytes (Some s) (Some t) h = sym h.1
+wrote_bytes (Some s) (Some t) h = sym h.0
 
 module _ (w : Float → Option (List ℕ)) (zero : w (of_int binary64 (pos 0)) ≡ Some (codes "0")) (one : w (of_int binary64 (pos 1)) ≡ Some (codes "1")) (exact : Exact w) where
   text_ascii : (x : Float) (o : Option (List ℕ)) → w x ≡ o → encodes (written o) ≡ written o
@@ -81,7 +81,7 @@ module _ (w : Float → Option (List ℕ)) (zero : w (of_int binary64 (pos 0)) �
   text_ascii x (Some t) e = let p = exact x t e in literal_ascii t p.0 p.2
 
   -- what it gives for the magnitude of x
-  pub gives : (x : Float) (r : Option NumberText) → Wrote (w (float_with_sign false x)) r → Gives w x (bytes_in r)
+  pub gives : (x : Float) (r : Option ArrayString) → Wrote (w (float_with_sign false x)) r → Gives w x (bytes_in r)
   unfolding float_with_sign of_int round
   gives nan r h = tt
   gives (inf s) r h = (one, zero)

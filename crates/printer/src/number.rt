@@ -15,7 +15,7 @@ impl<W: NumberWriter> View<'_, W> {
         ensures lent { lender_of sink.new ≡ lender_of sink.old }
     {
         match self.writer.write(x.abs()) {
-            Some(text) => number(sink, x, &text.bytes[0..text.len]),
+            Some(text) => number(sink, x, text.as_str().as_bytes()),
             None => number(sink, x, &[]),
         }
     }

@@ -3,7 +3,7 @@ use Rattle.std.specs.Prelude.{◌≡◌, ℕ, ◌-◌, ◌^◌, ◌≤◌, true,
 use Rattle.std.specs.Float.{nan, inf, fin, binary64}
 use Rattle.std.specs.Float.Ieee.{of_int}
 use Rattle.writer.specs.Literal.{literal}
-use Rattle.writer.specs.Texts.{final_zeros, shortened, plain_text, short_text}
+use Rattle.writer.specs.Texts.{short_decimal, plain_text, short_text}
 
 -- n is written so by the plain and by the short writer
 abbrev pub Written : ℕ → List ℕ → List ℕ → Type 0
@@ -31,4 +31,4 @@ pub record Worked : Type 0 where
 
 -- every integer up to 2 ^ 53 - 1 has its text
 abbrev pub EveryInteger : Type 0
-EveryInteger = (n : ℕ) → n ≤ 2 ^ 53 - 1 → Written n (decimal n) (shortened n (final_zeros 16 n))
+EveryInteger = (n : ℕ) → n ≤ 2 ^ 53 - 1 → Written n (decimal n) (short_decimal n)

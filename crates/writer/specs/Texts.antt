@@ -22,5 +22,8 @@ abbrev pub plain_text : Float → Option (List ℕ)
 plain_text x = option_map decimal (integer x)
 
 -- an integer below 2 ^ 53 has at most 16 digits
+abbrev pub short_decimal : ℕ → List ℕ
+short_decimal n = shortened n (final_zeros 16 n)
+
 abbrev pub short_text : Float → Option (List ℕ)
-short_text x = option_map (λ n. shortened n (final_zeros 16 n)) (integer x)
+short_text x = option_map short_decimal (integer x)

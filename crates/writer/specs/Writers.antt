@@ -1,9 +1,9 @@
 -- What is asked of every writer.
-use Rattle.std.specs.Prelude.{◌≡◌, ℕ, ◌-◌, ◌^◌, ◌≤◌, List, length, take, pos, Some, None, Option, Float}
+use Rattle.std.specs.Prelude.{◌≡◌, ℕ, ◌-◌, ◌^◌, ◌≤◌, List, length, pos, Some, None, Option, Float}
 use Rattle.std.specs.Float.{binary64}
 use Rattle.std.specs.Float.Ieee.{of_int}
+use Rattle.arrayvec.specs.ArrayString.{ArrayString}
 use Rattle.writer.specs.Literal.{literal}
-use Rattle.writer.specs.declared.number_writer.NumberText.{NumberText}
 
 -- no text is longer than n
 abbrev pub Within : ℕ → (Float → Option (List ℕ)) → Type 0
@@ -14,8 +14,8 @@ abbrev pub Exact : (Float → Option (List ℕ)) → Type 0
 Exact text = (x : Float) (t : List ℕ) → text x ≡ Some t → (n : ℕ) × (n ≤ 2 ^ 53 - 1) × (literal t ≡ Some n) × (x ≡ of_int binary64 (pos n))
 
 -- the result holds the text, or both are none
-abbrev pub Wrote : Option (List ℕ) → Option NumberText → Type 0
+abbrev pub Wrote : Option (List ℕ) → Option ArrayString → Type 0
 Wrote None None = Unit {0}
 Wrote None (Some w) = ⊥
 Wrote (Some t) None = ⊥
-Wrote (Some t) (Some w) = (w.len ≡ length t) × (take w.len w.bytes ≡ t) × (w.len ≤ 64)
+Wrote (Some t) (Some w) = (w.bytes ≡ t) × (length w.bytes ≤ 64)

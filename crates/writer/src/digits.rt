@@ -1,13 +1,19 @@
-ghost use Rattle.std.specs.Prelude.{◌≡◌, ℕ, ◌+◌, ◌*◌, ◌^◌, ◌<◌, ◌≤◌, ◌++◌, length, take, decimal};
+ghost use Rattle.std.specs.Prelude.{◌≡◌, ◌*◌, ◌^◌, ◌<◌, ◌≤◌, length, decimal, IfSome};
 ghost use Rattle.writer.specs.Texts.{integer, final_zeros};
 
+use crate::number_writer::NumberText;
+use itoa::Buffer;
 use std::num::f64_to_bits_with_nan;
 
 const MAX_SAFE_INTEGER: u64 = 9007199254740991;
 
+// How many digits an integer up to that has at most.
+pub(crate) const MAX_DIGITS: usize = 16;
+
 // The integer from 0 to 2^53 - 1 that x is. The bits tell -0 from 0, which `==` does not.
 pub(crate) fn safe_integer(x: f64) -> Option<u64>
-    ensures { result ≡ integer x }
+    ensures value { result ≡ integer x }
+    ensures safe { IfSome result (λ n. n ≤ MAX_SAFE_INTEGER) }
 {
     let n = std::num::saturating_f64_to_u64(x);
     if n > MAX_SAFE_INTEGER {
@@ -19,19 +25,13 @@ pub(crate) fn safe_integer(x: f64) -> Option<u64>
     Some(n)
 }
 
-// Writes the digits of n from `at` on, and says where they end.
-pub(crate) fn put_digits(n: u64, at: usize, out: &mut [u8]) -> usize
-    requires { at + length (decimal n) ≤ length out.old }
-    ensures ends { result ≡ at + length (decimal n) }
-    ensures wrote { take result out.new ≡ take at out.old ++ decimal n }
+pub(crate) fn digits(n: u64) -> NumberText
+    ensures text { result.bytes ≡ decimal n }
+    ensures short { length result.bytes ≤ 20 }
 {
-    if n < 10 {
-        out[at] = b'0' + n as u8;
-        return at + 1;
-    }
-    let end = put_digits(n / 10, at, out);
-    out[end] = b'0' + (n % 10) as u8;
-    end + 1
+    let mut text = NumberText::new();
+    text.push_str(Buffer::new().format(n));
+    text
 }
 
 // A number without its final zeros, and how many they were.

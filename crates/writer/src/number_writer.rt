@@ -3,32 +3,29 @@ ghost use Rattle.std.specs.Float.{binary64};
 ghost use Rattle.std.specs.Float.Ieee.{of_int};
 ghost use Rattle.writer.specs.Writers.{Within, Exact, Wrote};
 
-// The text of a number, in ASCII: the first `len` bytes.
-#[derive(Clone, Copy)]
-pub struct NumberText {
-    pub bytes: [u8; 64],
-    pub len: usize,
-}
+use arrayvec::ArrayString;
+
+// How many bytes the text of a number may have.
+pub const MAX_BYTES: usize = 64;
+
+// The text of a number, in ASCII.
+pub type NumberText = ArrayString<MAX_BYTES>;
 
 // Says which numbers have a text, and which text.
 pub trait NumberWriter {
     // The length of the longest text.
     const LONGEST: usize;
 
+    ghost LONGEST: { ℕ };
+
     ghost text: { Float → Option (List ℕ) };
-
-    ghost longest: { ℕ };
-
-    // Gives `LONGEST`, which no clause can name.
-    fn longest_text(&self) -> usize
-        ensures { result ≡ longest };
 
     fn write(&self, x: f64) -> Option<NumberText>
         ensures { Wrote (text x) result };
 
-    ghost short: { longest ≤ 64 };
+    ghost short: { LONGEST ≤ 64 };
 
-    ghost within: { Within longest text };
+    ghost within: { Within LONGEST text };
 
     ghost zero: { text (of_int binary64 (pos 0)) ≡ Some (codes "0") };
 

@@ -16,11 +16,11 @@ none x h = go (integer x) refl
     go None p = refl
     go (Some n) p = absurd (h n p)
 
-pub returns-then-n-gt-MAX_SAFE_INTEGER : goal.returns-then-n-gt-MAX_SAFE_INTEGER
-returns-then-n-gt-MAX_SAFE_INTEGER c = none c.args.x (λ k p. omega (arith, whole_part c.args.x k p, (integer_is c.args.x k p).0))
+pub returns-then-n-gt-MAX_SAFE_INTEGER-clause-value : goal.returns-then-n-gt-MAX_SAFE_INTEGER-clause-value
+returns-then-n-gt-MAX_SAFE_INTEGER-clause-value c = none c.args.x (λ k p. omega (arith, whole_part c.args.x k p, (integer_is c.args.x k p).0))
 
-pub returns-then-f64_to_bits_with_nan : goal.returns-then-f64_to_bits_with_nan
-returns-then-f64_to_bits_with_nan c =
+pub returns-then-f64_to_bits_with_nan-clause-value : goal.returns-then-f64_to_bits_with_nan-clause-value
+returns-then-f64_to_bits_with_nan-clause-value c =
     let x = c.args.x in
     let n = c.saturating_f64_to_u64-n.result in
     none x (λ k p.
@@ -28,8 +28,8 @@ returns-then-f64_to_bits_with_nan c =
     let same : of_int binary64 (pos n) ≡ x = ap (λ (j : ℕ). of_int binary64 (pos j)) (sym e) ∙ sym (integer_is x k p).1 in
     c.if-f64_to_bits_with_nan.true (c.f64_to_bits_with_nan.ensures ∙ ap (to_bits binary64) same ∙ sym c.f64_to_bits_with_nan-2.ensures))
 
-pub returns : goal.returns
-returns c =
+pub returns-clause-value : goal.returns-clause-value
+returns-clause-value c =
     let x = c.args.x in
     let n = c.saturating_f64_to_u64-n.result in
     let held : T (fits binary64 x) = subst T (sym c.well_formed.0.1) tt in

@@ -1,11 +1,10 @@
-use Rattle.std.proofs.Common.{decimal, refl, ap, arith}
+use Rattle.std.proofs.Common.{decimal, refl, arith}
 use lib.Ieee.{of_int, fits, in_unsigned, to_unsigned, whole}
-use Rattle.std.specs.Option.{option_map}
 use Rattle.std.specs.Fmt.{digits}
 use Rattle.writer.specs.Examples.{Worked, EveryInteger}
 use Rattle.writer.specs.Literal.{literal}
-use Rattle.writer.specs.Texts.{final_zeros, shortened}
-use Rattle.writer.specs.Integers.{integer_of}
+use Rattle.writer.specs.Texts.{final_zeros, short_decimal}
+use Rattle.writer.specs.Laws.{text_by}
 use Rattle.writer.proofs.examples.worked_examples.Goals as goal
 
 by_computing : Worked
@@ -28,9 +27,7 @@ by_computing = record {
 }
 
 each : EveryInteger
-each n h =
-    let i = integer_of n (omega arith) in
-    (ap (option_map decimal) i, ap (option_map (λ k. shortened k (final_zeros 16 k))) i)
+each n h = (text_by decimal n _ (omega arith) refl, text_by short_decimal n _ (omega arith) refl)
 
 pub returns : goal.returns
 returns c = record { count = refl; worked = by_computing; every = each }
