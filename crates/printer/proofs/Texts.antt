@@ -1,13 +1,12 @@
 -- The text that a number writer has for a number is ASCII.
-use Rattle.std.proofs.Common.{◌≡◌, ℕ, ◌<◌, ◌≤◌, Bool, true, false, cond, ◌&&◌, eqb, leb, List, [], ◌∷◌, ◌++◌, take, pos, Some, None, codes, Option, sym, refl, ap, ◌∙◌, arith}
+use Rattle.std.proofs.Common.{◌≡◌, ℕ, ◌<◌, ◌≤◌, Bool, true, false, cond, ◌&&◌, eqb, leb, List, [], ◌∷◌, ◌++◌, pos, Some, None, codes, Option, sym, refl, ap, ◌∙◌, arith}
 use lib.Ieee.{Float, nan, inf, fin, binary64, of_int, round}
 use lib.Utf8.{encodes}
 use Rattle.std.proofs.lemmas.Bool.{and_parts, leb-true, eqb-true}
 use Rattle.std.proofs.lemmas.Str.{encode_ascii}
 use Rattle.std.specs.Float.{float_with_sign}
 use Rattle.writer.specs.Literal.{all_digits, read_on, decimal_digits, decimal_integer, before_e, after_e, exponent, scaled, literal}
-use Rattle.writer.specs.Writers.{Exact, Wrote}
-use Rattle.arrayvec.specs.ArrayString.{ArrayString}
+use Rattle.writer.specs.Writers.{NumberText, Exact, Wrote}
 use Rattle.forms.specs.Numerals.{Gives}
 use Rattle.forms.specs.Show.{written}
 
@@ -65,11 +64,11 @@ literal_ascii t n h =
     parts_ascii t p.1 (integer_all (before_e t) p.0 p.2) p.3
 
 -- the bytes in what a writer gives
-abbrev pub bytes_in : Option ArrayString → List ℕ
+abbrev pub bytes_in : Option NumberText → List ℕ
 bytes_in None = []
 bytes_in (Some t) = t.bytes
 
-wrote_bytes : (o : Option (List ℕ)) (r : Option ArrayString) → Wrote o r → written o ≡ bytes_in r
+wrote_bytes : (o : Option (List ℕ)) (r : Option NumberText) → Wrote o r → written o ≡ bytes_in r
 wrote_bytes None None h = refl
 wrote_bytes None (Some t) h = absurd h
 wrote_bytes (Some s) None h = absurd h
@@ -81,7 +80,7 @@ module _ (w : Float → Option (List ℕ)) (zero : w (of_int binary64 (pos 0)) �
   text_ascii x (Some t) e = let p = exact x t e in literal_ascii t p.0 p.2
 
   -- what it gives for the magnitude of x
-  pub gives : (x : Float) (r : Option ArrayString) → Wrote (w (float_with_sign false x)) r → Gives w x (bytes_in r)
+  pub gives : (x : Float) (r : Option NumberText) → Wrote (w (float_with_sign false x)) r → Gives w x (bytes_in r)
   unfolding float_with_sign of_int round
   gives nan r h = tt
   gives (inf s) r h = (one, zero)

@@ -5,6 +5,10 @@ use Rattle.std.specs.Float.Ieee.{of_int}
 use Rattle.arrayvec.specs.ArrayString.{ArrayString}
 use Rattle.writer.specs.Literal.{literal}
 
+-- a `NumberText`, since antt has no name for an alias
+abbrev pub NumberText : Type 0
+NumberText = ArrayString
+
 -- no text is longer than n
 abbrev pub Within : ℕ → (Float → Option (List ℕ)) → Type 0
 Within n text = (x : Float) (t : List ℕ) → text x ≡ Some t → length t ≤ n
@@ -14,7 +18,7 @@ abbrev pub Exact : (Float → Option (List ℕ)) → Type 0
 Exact text = (x : Float) (t : List ℕ) → text x ≡ Some t → (n : ℕ) × (n ≤ 2 ^ 53 - 1) × (literal t ≡ Some n) × (x ≡ of_int binary64 (pos n))
 
 -- the result holds the text, or both are none
-abbrev pub Wrote : Option (List ℕ) → Option ArrayString → Type 0
+abbrev pub Wrote : Option (List ℕ) → Option NumberText → Type 0
 Wrote None None = Unit {0}
 Wrote None (Some w) = ⊥
 Wrote (Some t) None = ⊥

@@ -1,5 +1,4 @@
 use Rattle.std.proofs.Common.{Some, None, subst, rules}
-use native.Mathlib.Nat.{sub-zero}
 use lib.Ieee.{Float}
 use Rattle.writer.specs.Writers.{Wrote}
 use Rattle.printer.proofs.Texts.{gives}
@@ -11,7 +10,7 @@ returns-in-Some g c =
     let laws = g.met.W.NumberWriter in
     let h = subst (λ (y : Float). Wrote (w y) (Some c.in-Some.text)) c.abs.ensures.value c.in-Some.ensures in
     let q = gives w laws.zero laws.one laws.exact c.args.x (Some c.in-Some.text) h in
-    record { state = c.number.ensures.state w (rw sub-zero q); lent = search rules }
+    record { state = c.number.ensures.state w (rw (c.as_bytes.ensures.value, c.as_str.ensures.value) q); lent = search rules }
 
 pub returns-in-None : goal.returns-in-None
 returns-in-None g c =
