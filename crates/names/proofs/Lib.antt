@@ -1,2 +1,2 @@
-mod Records
+mod Finds
 pub mod Tables

@@ -1,9 +1,7 @@
 -- A table of names as the listings that the expressions over it are read with.
-use Rattle.std.specs.Prelude.{ℕ, List, [], ◌∷◌, map, take, drop}
+use Rattle.std.specs.Prelude.{ℕ, List, [], ◌∷◌, map}
 use Rattle.syntax.specs.Names.{Constant, Standing, Listing}
-use Rattle.units.specs.declared.span.Span.{Span}
-use Rattle.units.specs.declared.span.Text.{Text}
-use Rattle.units.specs.declared.span.Text.TheVariants as T
+use Rattle.units.specs.Spans.{part_of}
 use Rattle.names.specs.declared.table.Value.{Value}
 use Rattle.names.specs.declared.table.Value.TheVariants as V
 use Rattle.names.specs.declared.table.Class.{Class}
@@ -12,17 +10,9 @@ use Rattle.names.specs.declared.table.Name.{Name}
 use Rattle.names.specs.declared.table.Names.{Names}
 use Rattle.names.specs.Table.{text_of, class_of, listed}
 
--- the one of the two texts that a span names
-abbrev pub text_named : List ℕ → List ℕ → Text → List ℕ
-text_named source folded T.Source = source
-text_named source folded T.Folded = folded
-
-abbrev pub units_of : List ℕ → List ℕ → Span → List ℕ
-units_of source folded span = take span.len (drop span.start (text_named source folded span.text))
-
 abbrev pub constant_of : List ℕ → List ℕ → Value → Constant
 constant_of source folded (V.Number x) = Constant.number x
-constant_of source folded (V.String span) = Constant.string (units_of source folded span)
+constant_of source folded (V.String span) = Constant.string (part_of source folded span)
 constant_of source folded (V.Boolean b) = Constant.boolean b
 constant_of source folded V.Null = Constant.null
 constant_of source folded V.Undefined = Constant.undefined

@@ -1,5 +1,5 @@
--- What a table of names lists: the texts and the classes of its first records, of which there are at most 64.
-use Rattle.std.specs.Prelude.{◌≡◌, ℕ, ◌+◌, ◌<◌, ◌≤◌, Bool, true, false, ◌&&◌, ◌⊎◌, List, [], ◌∷◌, ◌++◌, map, length, take, Some, None, Option, ◌≢◌, nat_le, slice_index_or}
+-- What a table of names lists: the texts and the classes of its records, of which there are at most 64.
+use Rattle.std.specs.Prelude.{◌≡◌, ℕ, ◌+◌, ◌<◌, ◌≤◌, Bool, true, false, ◌&&◌, ◌⊎◌, List, [], ◌∷◌, ◌++◌, map, length, Some, None, Option, ◌≢◌, nat_le, slice_index_or}
 use Rattle.std.specs.Float.{float_is_finite}
 use Rattle.units.specs.declared.span.Text.{Text}
 use Rattle.units.specs.declared.span.Text.TheVariants as T
@@ -11,13 +11,13 @@ use Rattle.names.specs.declared.table.Name.{Name}
 use Rattle.names.specs.declared.table.Names.{Names}
 
 abbrev pub text_of : Name → List ℕ
-text_of n = take n.len n.text
+text_of n = n.text.items
 
 abbrev pub class_of : Name → Class
 class_of n = n.class
 
 abbrev pub listed : Names → List Name
-listed t = take t.len t.records
+listed t = t.records.items
 
 abbrev pub texts : Names → List (List ℕ)
 texts t = map text_of (listed t)

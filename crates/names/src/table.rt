@@ -1,7 +1,8 @@
 ghost use Rattle.std.specs.Prelude.{◌≡◌, ◌≤◌, false, [], length, nat_lt, slice_index_or, slice_set};
 ghost use Rattle.std.specs.List.{slice_get};
-ghost use Rattle.names.specs.Table.{text_of, listed as listed_in, texts, classes, FirstAt, Added, constant_value};
+ghost use Rattle.names.specs.Table.{texts, classes, FirstAt, Added, constant_value};
 
+use arrayvec::ArrayVec;
 use units::span::{Span, Text};
 use words::text::MAX_UNITS;
 
@@ -16,17 +17,17 @@ pub enum Value {
 }
 
 // What a name stands for: a global of the page, a variable of the surroundings, or a value.
-#[derive(Clone, Copy)]
+#[derive(Clone, Copy, Default)]
 pub enum Class {
+    #[default]
     Free,
     Bound,
     Constant { value: Value, inlined: bool },
 }
 
-#[derive(Clone, Copy)]
+#[derive(Default, Drop)]
 pub struct Name {
-    text: [u16; MAX_UNITS],
-    len: usize,
+    text: ArrayVec<u16, MAX_UNITS>,
     class: Class,
 }
 
@@ -39,22 +40,7 @@ pub const MAX_STRING_UNITS: u32 = 1024;
 // The names of a tree, in the order in which they were added.
 #[derive(Drop)]
 pub struct Names {
-    records: [Name; MAX_NAMES],
-    len: usize,
-}
-
-const BLANK: Name = Name {
-    text: [0; MAX_UNITS],
-    len: 0,
-    class: Class::Free,
-};
-
-impl Name {
-    fn text(&self) -> &[u16]
-        ensures { result.now ≡ text_of self.now }
-    {
-        &self.text[0..self.len.min(MAX_UNITS)]
-    }
+    records: ArrayVec<Name, MAX_NAMES>,
 }
 
 impl Names {
@@ -62,16 +48,9 @@ impl Names {
         ensures texts { texts result ≡ [] }
         ensures classes { classes result ≡ [] }
     {
-        let records = [BLANK; MAX_NAMES];
-        Names { records, len: 0 }
-    }
-
-    // The records of the names that are listed.
-    fn listed(&self) -> &[Name]
-        ensures records { result.now ≡ listed_in self.now }
-        ensures room { length result.now ≤ 64 }
-    {
-        &self.records[0..self.len.min(MAX_NAMES)]
+        Names {
+            records: ArrayVec::new(),
+        }
     }
 
     // How many names are listed.
@@ -79,36 +58,29 @@ impl Names {
         ensures count { result ≡ length (texts self.now) }
         ensures room { result ≤ 64 }
     {
-        self.listed().len()
+        self.records.len()
     }
 
     // The text of the name at i; empty past the end.
     pub fn text(&self, i: usize) -> &[u16]
         ensures { result.now ≡ slice_index_or (texts self.now) i [] }
     {
-        match self.listed().get(i) {
-            Some(name) => name.text(),
-            None => &[],
-        }
+        self.records.get(i).map_or(&[], |name| name.text.as_slice())
     }
 
     pub fn class(&self, i: usize) -> Option<Class>
         ensures { result ≡ slice_get (classes self.now) i }
     {
-        let name = self.listed().get(i)?;
-        Some(name.class)
+        self.records.get(i).map(|name| name.class)
     }
 
     // Where the text is listed first.
     pub fn find(&self, text: &[u16]) -> Option<usize>
         ensures { FirstAt (texts self.now) text.now result }
     {
-        for i in 0..self.len() {
-            if self.text(i) == text {
-                return Some(i);
-            }
-        }
-        None
+        self.records
+            .iter()
+            .position(|name| name.text.as_slice() == text)
     }
 
     // Lists the text as a free name, and says where; None where there is no room for it.
@@ -116,17 +88,9 @@ impl Names {
         ensures { Added self.old text.now result self.new }
     {
         let i = self.len();
-        if i >= MAX_NAMES || text.len() > MAX_UNITS {
-            return None;
-        }
-        let mut units = [0; MAX_UNITS];
-        units[0..text.len()].copy_from_slice(text);
-        self.records[i] = Name {
-            text: units,
-            len: text.len(),
-            class: Class::Free,
-        };
-        self.len = i + 1;
+        let text = ArrayVec::try_from(text).ok()?;
+        let class = Class::Free;
+        self.records.try_push(Name { text, class }).ok()?;
         Some(i)
     }
 
@@ -137,11 +101,13 @@ impl Names {
         ensures texts { texts self.new ≡ texts self.old }
         ensures unchanged { result ≡ false → self.new ≡ self.old }
     {
-        if i >= self.len() {
-            return false;
+        match self.records.get_mut(i) {
+            Some(name) => {
+                name.class = class;
+                true
+            }
+            None => false,
         }
-        self.records[i].class = class;
-        true
     }
 }
 
