@@ -1,11 +1,11 @@
 ghost use Rattle.std.specs.Prelude.{◌≡◌, ℕ, ◌≤◌, false, ℤ};
 ghost use Rattle.std.specs.Float.{fin};
 ghost use Rattle.integers.specs.Words.{whole};
-ghost use Rattle.integers.specs.Digits.{digits as decimal, digit_count, Lengths};
+ghost use Rattle.integers.specs.Digits.{digits, digit_count, Lengths};
 
 // Powers of ten up to 10^22 are exact in an `f64`.
 fn whole_digits(magnitude: f64) -> u32
-    ensures value { (m : ℕ) (e : ℤ) → magnitude ≡ fin false m e → result ≡ decimal (whole m e) }
+    ensures value { (m : ℕ) (e : ℤ) → magnitude ≡ fin false m e → result ≡ digits (whole m e) }
     ensures bound { result ≤ 23 }
 {
     let mut power = 10.0;

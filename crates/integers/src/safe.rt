@@ -1,8 +1,11 @@
 ghost use Rattle.std.specs.Prelude.{◌≡◌};
 ghost use Rattle.integers.specs.Safe.{safe, made, SafeMade, MadeSafe};
 
-// -0 is negative, of size 0.
-#[derive(Clone, Copy)]
+// The largest integer that is safe: 2^53 - 1.
+const MAX_SAFE_INTEGER: u64 = 9007199254740991;
+
+// A sign and a size, since -0 is an integer apart from 0: negative, of size 0.
+#[derive(Clone, Copy, Debug, PartialEq, Eq)]
 pub struct Integer {
     pub negative: bool,
     pub size: u64,
@@ -13,14 +16,10 @@ pub fn safe_integer(x: f64) -> Option<Integer>
     ensures same { SafeMade }
 {
     let magnitude = x.abs();
-    let n = std::num::saturating_f64_to_u64(magnitude);
-    if n <= 9007199254740991 {
-        if n as f64 == magnitude {
-            return Some(Integer {
-                negative: x.is_sign_negative(),
-                size: n,
-            });
-        }
+    let size = std::num::saturating_f64_to_u64(magnitude);
+    if size <= MAX_SAFE_INTEGER && size as f64 == magnitude {
+        let negative = x.is_sign_negative();
+        return Some(Integer { negative, size });
     }
     None
 }

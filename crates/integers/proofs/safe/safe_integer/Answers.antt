@@ -12,6 +12,7 @@ use Rattle.integers.specs.Words.{whole}
 use Rattle.integers.proofs.Made.{safe_made}
 use Rattle.integers.proofs.Values.{eq-true, eq-false}
 use Rattle.integers.proofs.safe.safe_integer.Goals as goal
+use Rattle.integers.proofs.safe.safe_integer.Goals.{else-size-le-MAX_SAFE_INTEGER-via-then-size-le-MAX_SAFE_INTEGER+else-size-magnitude, else-size-le-MAX_SAFE_INTEGER-via-else-size-le-MAX_SAFE_INTEGER}
 
 value : (n : ℕ) → n ≤ 2 ^ 53 - 1 → HasValue (of_int binary64 (pos n)) false n 1
 unfolding of_int
@@ -54,27 +55,25 @@ large (inf s) n e l = refl
 large (fin s m d) n e l =
     sym (ap (λ (b : Bool). cond b (made s (whole m d)) None) (and_right (eqb (m * up d % down d) 0) _ (lt-leb (whole m d) (2 ^ 53 - 1) (omega arith))))
 
-pub is_sign_negative-requires : goal.is_sign_negative-requires
-is_sign_negative-requires c = number c.args.x _ (sym (ap (eq (of_int binary64 (pos c.saturating_f64_to_u64-n.result))) c.abs-magnitude.ensures.value) ∙ c.if-n-magnitude.true)
+pub is_sign_negative-negative-requires : goal.is_sign_negative-negative-requires
+is_sign_negative-negative-requires c = number c.args.x _ (rw c.abs-magnitude.ensures.value at c.if-size-magnitude.true)
 
-pub returns-then-n-magnitude : goal.returns-then-n-magnitude
-returns-then-n-magnitude c = record {
-  value =
-      ap (λ (b : Bool). made b c.saturating_f64_to_u64-n.result) c.is_sign_negative.ensures
-      ∙ yes c.args.x c.saturating_f64_to_u64-n.result (c.saturating_f64_to_u64-n.ensures ∙ ap (to_unsigned 64) c.abs-magnitude.ensures.value) c.if-n-le9007199254740991.true (sym (ap (eq (of_int binary64 (pos c.saturating_f64_to_u64-n.result))) c.abs-magnitude.ensures.value) ∙ c.if-n-magnitude.true);
-  same = safe_made;
-}
+pub returns-then-size-magnitude : goal.returns-then-size-magnitude
+returns-then-size-magnitude c =
+    let size = c.saturating_f64_to_u64-size.result in
+    let cast = rw c.abs-magnitude.ensures.value at c.saturating_f64_to_u64-size.ensures in
+    record {
+      value = ap (λ (b : Bool). made b size) c.is_sign_negative-negative.ensures ∙ yes c.args.x size cast c.if-size-le-MAX_SAFE_INTEGER.true (rw c.abs-magnitude.ensures.value at c.if-size-magnitude.true);
+      same = safe_made;
+    }
 
-pub returns-else-n-magnitude : goal.returns-else-n-magnitude
-returns-else-n-magnitude c = record {
-  value =
-      no c.args.x c.saturating_f64_to_u64-n.result (c.saturating_f64_to_u64-n.ensures ∙ ap (to_unsigned 64) c.abs-magnitude.ensures.value) c.if-n-le9007199254740991.true (sym (ap (eq (of_int binary64 (pos c.saturating_f64_to_u64-n.result))) c.abs-magnitude.ensures.value) ∙ c.if-n-magnitude.false);
-  same = safe_made;
-}
-
-pub returns-else-n-le9007199254740991 : goal.returns-else-n-le9007199254740991
-returns-else-n-le9007199254740991 c = record {
-  value =
-      large c.args.x c.saturating_f64_to_u64-n.result (c.saturating_f64_to_u64-n.ensures ∙ ap (to_unsigned 64) c.abs-magnitude.ensures.value) c.if-n-le9007199254740991.false;
-  same = safe_made;
-}
+pub returns : goal.returns
+returns c =
+    let cast = rw c.abs-magnitude.ensures.value at c.saturating_f64_to_u64-size.ensures in
+    record {
+      value = elim c.else-size-le-MAX_SAFE_INTEGER.branch [
+        | else-size-le-MAX_SAFE_INTEGER-via-then-size-le-MAX_SAFE_INTEGER+else-size-magnitude w ↦ no c.args.x _ cast w.if-size-le-MAX_SAFE_INTEGER.true (rw c.abs-magnitude.ensures.value at w.if-size-magnitude.false)
+        | else-size-le-MAX_SAFE_INTEGER-via-else-size-le-MAX_SAFE_INTEGER w ↦ large c.args.x _ cast w.if-size-le-MAX_SAFE_INTEGER.false
+      ];
+      same = safe_made;
+    }
