@@ -1,6 +1,0 @@
-use Rattle.std.proofs.Common.{rules}
-use Rattle.std.proofs.lemmas.List.{take_more}
-use Rattle.stack.proofs.Stack.pop.Goals as goal
-
-pub returns : goal.returns
-returns g c = record { test = search rules; len = search rules; slots = search rules; items = search (rules, take_more) }
