@@ -1,15 +1,8 @@
 -- Numbers in lower-case hexadecimal.
-use Rattle.std.specs.Prelude.{ℕ, ◌/◌, ◌%◌, List, [], ◌∷◌, ◌++◌}
+use Rattle.std.specs.Prelude.{ℕ, zero, suc, ◌/◌, ◌%◌, List, [], ◌∷◌, ◌++◌}
 use Rattle.std.specs.Char.{digit_char}
 
--- a byte in two digits
-abbrev pub pair : ℕ → List ℕ
-pair b = digit_char (b / 16) ∷ digit_char (b % 16) ∷ []
-
--- a 16-bit unit in four digits
-abbrev pub quad : ℕ → List ℕ
-quad u = pair (u / 256) ++ pair (u % 256)
-
-abbrev pub spelled : (ℕ → List ℕ) → List ℕ → List ℕ
-spelled digits [] = []
-spelled digits (n ∷ ns) = digits n ++ spelled digits ns
+-- a number in that many digits
+abbrev pub hex : ℕ → ℕ → List ℕ
+hex zero n = []
+hex (suc k) n = hex k (n / 16) ++ digit_char (n % 16) ∷ []

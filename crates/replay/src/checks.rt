@@ -1,6 +1,7 @@
 // A check asks again what a row records the answer to.
-use crate::fault::*;
-use crate::rows::{bytes, text, word};
+use crate::fault::Fault;
+use crate::hex::numbers;
+use crate::rows::{text, word};
 use forms::quote::quote;
 use std::alloc::{AllocError, Global};
 use std::fmt::Debug;
@@ -42,7 +43,7 @@ pub(crate) fn check_literal(heap: Global, fields: &[&str]) -> Result<(), Fault> 
         return Err(Fault::Malformed);
     };
     let found = quoted(heap, &text(heap, units)?)?;
-    same(heap, "quote", bytes(heap, literal)?, found)
+    same(heap, "quote", numbers(heap, literal)?, found)
 }
 
 // Where one unit is missing for a cooked text of `len` units, there is none.
@@ -77,16 +78,12 @@ fn quoted(heap: Global, text: &[u16]) -> Result<Vec<u8>, AllocError> {
 
 fn same<T: PartialEq + Debug + Drop>(
     heap: Global,
-    question: &'static str,
+    question: &str,
     expected: T,
     found: T,
 ) -> Result<(), Fault> {
     if expected == found {
         return Ok(());
     }
-    Err(Fault::Differs {
-        question,
-        expected: format!(in heap; "{expected:?}")?,
-        found: format!(in heap; "{found:?}")?,
-    })
+    Err(Fault::Differs(format!(in heap; "{question}: expected {expected:?}, found {found:?}")?))
 }

@@ -1,40 +1,14 @@
-use std::alloc::{AllocError, AllocFailed};
-use std::fmt;
+use std::alloc::AllocError;
+use thiserror::Error;
 
 // Why a row is not replayed.
-#[derive(Drop)]
+#[derive(Debug, Drop, Error)]
 pub enum Fault {
+    #[error("malformed")]
     Malformed,
-    Differs {
-        question: &'static str,
-        expected: String,
-        found: String,
-    },
-    OutOfMemory,
-}
-
-impl From<AllocError> for Fault {
-    fn from(_: AllocError) -> Fault {
-        Fault::OutOfMemory
-    }
-}
-
-impl<T: Drop> From<AllocFailed<T>> for Fault {
-    fn from(_: AllocFailed<T>) -> Fault {
-        Fault::OutOfMemory
-    }
-}
-
-impl fmt::Display for Fault {
-    fn fmt<W: fmt::Write>(&self, f: &mut fmt::Formatter<W>) -> fmt::Result {
-        match self {
-            Fault::Malformed => write!(f, "malformed"),
-            Fault::Differs {
-                question,
-                expected,
-                found,
-            } => { write!(f, "{question}: expected {expected}, found {found}") },
-            Fault::OutOfMemory => write!(f, "out of memory"),
-        }
-    }
+    // which question, the recorded answer and the one that was found
+    #[error("{0}")]
+    Differs(String),
+    #[error("out of memory")]
+    OutOfMemory(#[from(alloc)] AllocError),
 }

@@ -3,43 +3,61 @@
 
 mod checks;
 mod fault;
-mod recording;
+mod hex;
 mod rows;
 
 use anyhow::anyhow;
-use recording::Recording;
+use checks::{check_literal, check_raw_part, check_word};
+use fault::Fault;
+use rows::fields;
+use std::alloc::Global;
 use std::fs;
 
 fn main(rt: HostRuntime) -> anyhow::Result<()> {
-    replay_all(&rt)
+    replay(&rt, "raw.txt", "raw parts", check_raw_part)?;
+    replay(&rt, "words.txt", "words", check_word)?;
+    replay(&rt, "strings.txt", "string literals", check_literal)
 }
 
-fn replay_all(rt: &HostRuntime) -> anyhow::Result<()> {
-    replay(rt, Recording::RawParts)?;
-    replay(rt, Recording::Words)?;
-    replay(rt, Recording::Literals)
-}
-
-// Replays one file, whose comments begin with `#`.
-fn replay(rt: &HostRuntime, recording: Recording) -> anyhow::Result<()> {
-    let file = recording.file();
+// Checks the rows of one file, whose comments begin with `#`.
+fn replay<F: Fn(Global, &[&str]) -> Result<(), Fault>>(
+    rt: &HostRuntime,
+    file: &str,
+    subject: &str,
+    check: F,
+) -> anyhow::Result<()>
+    requires { F.IsAlwaysCallable check }
+{
+    let heap = rt.alloc();
     let text = fs::read_to_string(rt, file)?;
-    let mut rows = 0usize;
-    for (above, line) in text.as_str().lines().enumerate() {
-        if line.starts_with('#') {
-            continue;
-        }
-        if let Err(fault) = recording.check(rt.alloc(), line) {
-            let number = above + 1;
+    let rows: Vec<(usize, &str)> = text
+        .as_str()
+        .lines()
+        .enumerate()
+        .filter(|(_, line)| !line.starts_with('#'))
+        .collect(heap)?;
+    if rows.is_empty() {
+        return Err(anyhow!(format!(in heap; "{file}: no rows")?));
+    }
+    for (above, row) in &rows {
+        if let Err(fault) = check_row(heap, row, &check) {
+            let number = *above + 1;
             eprintln!(rt; "{file}, line {number}: {fault}")?;
             return Err(anyhow!("not replayed to the end"));
         }
-        rows += 1;
     }
-    if rows == 0 {
-        return Err(anyhow!(format!(in rt.alloc(); "{file}: no rows")?));
-    }
-    let subject = recording.subject();
-    println!(rt; "{subject}: {rows} rows, all as recorded")?;
+    let count = rows.len();
+    println!(rt; "{subject}: {count} rows, all as recorded")?;
     Ok(())
+}
+
+fn check_row<F: Fn(Global, &[&str]) -> Result<(), Fault>>(
+    heap: Global,
+    row: &str,
+    check: &F,
+) -> Result<(), Fault>
+    requires { F.IsAlwaysCallable check.now }
+{
+    let fields = fields(heap, row)?;
+    check(heap, &fields)
 }
