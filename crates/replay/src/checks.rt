@@ -1,4 +1,5 @@
-// A check asks again what a row records the answer to.
+// A check asks again what a row records the answer to. What allocates takes the heap, first as
+// everywhere: a struct of the heap and the fields would be taken apart again in each check.
 use crate::fault::Fault;
 use crate::hex::numbers;
 use crate::rows::{text, word};

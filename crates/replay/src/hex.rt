@@ -70,7 +70,8 @@ fn digit(c: u8) -> Result<u8, Fault>
     }
 }
 
-// The numbers that a field spells one after another.
+// The numbers that a field spells one after another. A loop, since `map` takes no function whose type
+// parameter stands in its result alone, as `N::read`.
 pub(crate) fn numbers<N: Hex>(heap: Global, field: &str) -> Result<Vec<N>, Fault>
     ensures { IfOk result (λ v. flat_map N.spelling v.items ≡ field.now) }
 {
