@@ -6,7 +6,8 @@ use Rattle.template.specs.declared.machine.State.{State}
 use Rattle.template.specs.declared.machine.State.TheVariants.{Start, Dollar, Backslash, Zero, Unicode, Digits, Open, Braced, Lead, Bad}
 use Rattle.template.specs.declared.machine.Cooked.TheVariants.{Nothing, One, Two}
 use Rattle.template.specs.declared.machine.Step.{Step}
-use Rattle.template.specs.Raw.{begins, is_digit, is_line, is_lead, is_trail, hex_value, single_escape, utf16, Hex, Raw}
+use Rattle.units.specs.CodePoints.{is_lead, is_trail}
+use Rattle.template.specs.Raw.{begins, is_digit, is_line, hex_value, single_escape, utf16, Hex, Raw}
 use Rattle.template.specs.Raw.Hex.{no_digit, one_more}
 use Rattle.template.specs.Raw.Raw.{end, dollar, plain, pair, continuation, single, non_escape, non_escape_pair, null, hex, unicode, code_point_escape}
 use Rattle.template.specs.Machine.{to, character, escape, code_point, stepped, units, ends, emitted}

@@ -6,7 +6,8 @@ use Rattle.template.specs.declared.machine.State.TheVariants.{Start, Dollar, Bac
 use Rattle.template.specs.declared.machine.Cooked.{Cooked}
 use Rattle.template.specs.declared.machine.Cooked.TheVariants.{Nothing, One, Two}
 use Rattle.template.specs.declared.machine.Step.{Step}
-use Rattle.template.specs.Raw.{is_plain, is_non_escape, is_line, is_lead, is_trail, is_digit, hex_value, single_escape}
+use Rattle.units.specs.CodePoints.{is_lead, is_trail}
+use Rattle.template.specs.Raw.{is_plain, is_non_escape, is_line, is_digit, hex_value, single_escape}
 
 abbrev pub to : State → Cooked → Step
 to s k = record { next = s; cooked = k }

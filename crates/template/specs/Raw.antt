@@ -2,6 +2,7 @@
 -- substitutions of a template, as 16-bit code units, and its cooked text (TV, 12.9.6.1).
 -- Valid escapes only (no NotEscapeSequence), no carriage return, no lone surrogate.
 use Rattle.std.specs.Prelude.{◌≡◌, ℕ, suc, ◌+◌, ◌-◌, ◌*◌, ◌/◌, ◌%◌, Bool, true, false, cond, not, ◌&&◌, ◌||◌, List, [], ◌∷◌, ◌++◌, is_some, Some, None, Option, ◌==◌, nat_eq, nat_le}
+use Rattle.units.specs.CodePoints.{is_lead, is_trail}
 
 abbrev pub within : ℕ → ℕ → ℕ → Bool
 within low high u = nat_le low u && nat_le u high
@@ -14,13 +15,6 @@ one_of u (v ∷ vs) = u == v || one_of u vs
 abbrev pub begins : (ℕ → Bool) → List ℕ → Bool
 begins test [] = false
 begins test (u ∷ us) = test u
-
--- 6.1.4: a leading and a trailing surrogate
-abbrev pub is_lead : ℕ → Bool
-is_lead u = within 0xD800 0xDBFF u
-
-abbrev pub is_trail : ℕ → Bool
-is_trail u = within 0xDC00 0xDFFF u
 
 -- 12.3 LineTerminator: LF, LS, PS, and the carriage return, which stands nowhere in a raw part
 abbrev pub is_line : ℕ → Bool

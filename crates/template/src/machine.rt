@@ -3,9 +3,9 @@
 // that the text is no raw part.
 ghost use Rattle.std.specs.Prelude.{◌≡◌};
 ghost use Rattle.template.specs.Raw.{hex_value};
-ghost use Rattle.template.specs.Machine.{stepped, may_end, character as char_step, escape as escape_step, grown, code_point, fixed as fixed_step, braced as braced_step};
+ghost use Rattle.template.specs.Machine.{stepped, may_end, character, escape, grown, code_point, fixed, braced};
 
-#[derive(Clone, Copy)]
+#[derive(Clone, Copy, Debug, PartialEq, Eq)]
 pub enum State {
     // between two characters
     Start,
@@ -27,14 +27,14 @@ pub enum State {
     Bad,
 }
 
-#[derive(Clone, Copy)]
+#[derive(Clone, Copy, Debug, PartialEq, Eq)]
 pub enum Cooked {
     Nothing,
     One(u16),
     Two(u16, u16),
 }
 
-#[derive(Clone, Copy)]
+#[derive(Clone, Copy, Debug, PartialEq, Eq)]
 pub struct Step {
     pub next: State,
     pub cooked: Cooked,
@@ -55,20 +55,15 @@ const LEFT_BRACE: u16 = b'{' as u16;
 
 const RIGHT_BRACE: u16 = b'}' as u16;
 
-fn hex_value(unit: u16) -> Option<u8>
+fn hex_value(unit: u16) -> Option<u32>
     ensures { result ≡ hex_value unit }
 {
-    match unit {
-        0x30..=0x39 => Some((unit - 0x30) as u8),
-        0x41..=0x46 => Some((unit - 0x37) as u8),
-        0x61..=0x66 => Some((unit - 0x57) as u8),
-        _ => None,
-    }
+    char::from_u32(u32::from(unit))?.to_digit(16)
 }
 
 // A unit where a character begins.
 fn character(unit: u16) -> Step
-    ensures { result ≡ char_step unit }
+    ensures { result ≡ character unit }
 {
     match unit {
         BACKSLASH => Step {
@@ -93,7 +88,7 @@ fn character(unit: u16) -> Step
 
 // The unit after a backslash.
 fn escape(unit: u16) -> Step
-    ensures { result ≡ escape_step unit }
+    ensures { result ≡ escape unit }
 {
     let cooked = match unit {
         // x, u and 0 go on
@@ -140,7 +135,7 @@ fn with_digit(value: u32, unit: u16) -> Option<u32>
     if value > 0x10ffff {
         return Some(value);
     }
-    Some(value * 16 + digit as u32)
+    Some(value * 16 + digit)
 }
 
 // The end of an escape by number.
@@ -166,7 +161,7 @@ fn code_point(value: u32) -> Step
 
 // A digit of an escape with two or four.
 fn fixed(after: u8, value: u32, unit: u16) -> Step
-    ensures { result ≡ fixed_step after (grown value (hex_value unit)) }
+    ensures { result ≡ fixed after (grown value (hex_value unit)) }
 {
     match with_digit(value, unit) {
         None => BAD,
@@ -183,7 +178,7 @@ fn fixed(after: u8, value: u32, unit: u16) -> Step
 
 // A digit between braces.
 fn braced(value: u32, unit: u16) -> Step
-    ensures { result ≡ braced_step (grown value (hex_value unit)) }
+    ensures { result ≡ braced (grown value (hex_value unit)) }
 {
     match with_digit(value, unit) {
         None => BAD,
