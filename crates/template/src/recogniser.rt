@@ -9,9 +9,8 @@ pub fn is_raw_part(text: &[u16]) -> bool
     ensures no { result ≡ false → NoRawPart text.now }
     ensures once { CookedOnce }
 {
-    let mut state = State::Start;
-    for unit in text {
-        state = advance(state, *unit).next;
-    }
-    may_end(state)
+    let last = text
+        .iter()
+        .fold(State::Start, |state, unit| advance(state, *unit).next);
+    may_end(last)
 }
