@@ -1,42 +1,14 @@
 // A text of 16-bit units as a JSON string.
 use std::alloc::{AllocError, Global};
+use std::fmt::Write;
 use units::code_point::code_point_at;
-
-fn hex_digit(n: u32) -> char {
-    match n % 16 {
-        0 => '0',
-        1 => '1',
-        2 => '2',
-        3 => '3',
-        4 => '4',
-        5 => '5',
-        6 => '6',
-        7 => '7',
-        8 => '8',
-        9 => '9',
-        10 => 'a',
-        11 => 'b',
-        12 => 'c',
-        13 => 'd',
-        14 => 'e',
-        _ => 'f',
-    }
-}
-
-fn push_escape(text: &mut String, unit: u32) -> Result<(), AllocError> {
-    text.push_str("\\u")?;
-    text.push(hex_digit(unit / 4096))?;
-    text.push(hex_digit(unit / 256))?;
-    text.push(hex_digit(unit / 16))?;
-    text.push(hex_digit(unit))
-}
 
 fn push_point(text: &mut String, point: u32) -> Result<(), AllocError> {
     match char::from_u32(point) {
         Some('"') => text.push_str("\\\""),
         Some('\\') => text.push_str("\\\\"),
         Some(c) if point >= 32 => text.push(c),
-        _ => push_escape(text, point),
+        _ => write!(text, "\\u{point:04x}"),
     }
 }
 

@@ -1,156 +1,109 @@
-use crate::convert::{class_of, parts_of, shape_of};
-use crate::json::json;
+// A script as far as it has been performed: the tree that is open, and what came of the lines.
+use crate::report::Report;
 use crate::tally::Tally;
 use script::calls::{Call, WriterName};
+use script::fault::Fault;
+use script::lines::parse;
+use std::alloc::AllocError;
+use std::fmt::Display;
 use std::io;
-use std::io::Write;
-use tree::refusal::{OpenError, Refusal};
 use tree::tree::Tree;
-use writer::{NumberWriter, Plain, Short};
+use writer::{Plain, Short};
 
-// The tree that calls are made on.
+// A tree with the writer that it was opened with.
 #[derive(Drop)]
-pub enum Current {
-    None,
+enum OpenTree {
     Plain(Tree<Plain>),
     Short(Tree<Short>),
 }
 
-// Says that a call was refused, and counts it.
-fn refused(rt: &HostRuntime, tally: &mut Tally, verb: &str, refusal: Refusal) -> io::Result<()> {
-    let number = refusal.number();
-    tally.refuse(number);
-    println!(rt; "{verb}: {number}")
+#[derive(Drop)]
+pub struct Session<'a> {
+    report: Report<'a>,
+    tree: Option<OpenTree>,
+    lines: u64,
+    // of them, those that were no call
+    bad: u64,
 }
 
-fn print<W: NumberWriter + Drop>(
-    rt: &HostRuntime,
-    tally: &mut Tally,
-    tree: &Tree<W>,
-    capacity: usize,
-) -> io::Result<()> {
-    let Ok(mut out) = Vec::from_elem(rt.alloc(), 0u8, capacity) else {
-        return println!(rt; "print: no memory");
-    };
-    match tree.print(&mut out) {
-        Ok(len) => {
-            tally.bytes = tally.bytes.saturating_add(len as u64);
-            println!(rt; "print: 0 {len}")?;
-            out.truncate(len);
-            rt.stdout().write_all(&out)?;
-            println!(rt; "")
-        }
-        Err(refusal) => refused(rt, tally, "print", refusal),
-    }
-}
-
-// Performs a call on a tree, and says in a line what came of it.
-fn perform<W: NumberWriter + Drop>(
-    rt: &HostRuntime,
-    tally: &mut Tally,
-    tree: &mut Tree<W>,
-    call: Call,
-) -> io::Result<()> {
-    match call {
-        Call::Open { .. } => Ok(()),
-        Call::Name { text, class } => match tree.name(&text, class_of(class)) {
-            Ok(index) => println!(rt; "name: 0 index {index}"),
-            Err(refusal) => refused(rt, tally, "name", refusal),
-        },
-        Call::Build { shape, parts } => {
-            let parts = parts_of(rt.alloc(), &parts)?;
-            match tree.build(shape_of(shape), &parts) {
-                Ok(node) => {
-                    tally.nodes = tally.nodes.saturating_add(1);
-                    println!(rt; "build: 0 node {node}")
-                }
-                Err(refusal) => refused(rt, tally, "build", refusal),
-            }
-        }
-        Call::Root(node) => match tree.root(node) {
-            Ok(()) => println!(rt; "root: 0"),
-            Err(refusal) => refused(rt, tally, "root", refusal),
-        },
-        Call::Read(node) => match tree.read(node) {
-            Ok(units) => {
-                let text = json(rt.alloc(), units)?;
-                println!(rt; "read: 0 {text}")
-            }
-            Err(refusal) => refused(rt, tally, "read", refusal),
-        },
-        Call::Print(capacity) => print(rt, tally, tree, capacity),
-    }
-}
-
-fn not_opened(rt: &HostRuntime, tally: &mut Tally, error: OpenError) -> io::Result<Current> {
-    match error {
-        OpenError::OutsideLimits => {
-            tally.refuse(1);
-            println!(rt; "open: 1")?;
-        }
-        OpenError::NoMemory => println!(rt; "open: no memory")?,
-    }
-    Ok(Current::None)
-}
-
-fn opened(rt: &HostRuntime, tally: &mut Tally, tree: Current) -> io::Result<Current> {
-    tally.trees = tally.trees.saturating_add(1);
-    println!(rt; "open: 0")?;
-    Ok(tree)
-}
-
-// Opens a tree with the writer of that name; none where that is refused.
-fn open(
-    rt: &HostRuntime,
-    tally: &mut Tally,
-    entries: usize,
-    folded: usize,
-    writer: WriterName,
-    source: &[u16],
-) -> io::Result<Current> {
-    match writer {
-        WriterName::Plain => match Tree::open(rt.alloc(), entries, folded, source, Plain) {
-            Ok(tree) => opened(rt, tally, Current::Plain(tree)),
-            Err(error) => not_opened(rt, tally, error),
-        },
-        WriterName::Short => match Tree::open(rt.alloc(), entries, folded, source, Short) {
-            Ok(tree) => opened(rt, tally, Current::Short(tree)),
-            Err(error) => not_opened(rt, tally, error),
-        },
-    }
-}
-
-impl Current {
-    // Performs a call; false, and nothing done, where it wants a tree and none is open.
-    pub(crate) fn perform(
-        self,
-        rt: &HostRuntime,
-        tally: &mut Tally,
-        call: Call,
-    ) -> io::Result<(Current, bool)> {
-        match call {
-            Call::Open {
-                entries,
-                folded,
-                writer,
-                source,
-            } => {
-                match open(rt, tally, entries, folded, writer, &source)? {
-                    Current::None => Ok((self, true)),
-                    tree => Ok((tree, true)),
-                }
-            }
-            call => match self {
-                Current::None => Ok((Current::None, false)),
-                Current::Plain(mut tree) => {
-                    perform(rt, tally, &mut tree, call)?;
-                    Ok((Current::Plain(tree), true))
-                }
-                Current::Short(mut tree) => {
-                    perform(rt, tally, &mut tree, call)?;
-                    Ok((Current::Short(tree), true))
-                }
+impl<'a> Session<'a> {
+    pub(crate) fn new(rt: &'a HostRuntime) -> Session<'a> {
+        Session {
+            report: Report {
+                rt,
+                tally: Tally::new(),
             },
+            tree: None,
+            lines: 0,
+            bad: 0,
+        }
+    }
+
+    pub(crate) fn tally(&self) -> Tally {
+        self.report.tally
+    }
+
+    pub(crate) fn all_calls(&self) -> bool {
+        self.bad == 0
+    }
+
+    // Performs one line of the script.
+    pub(crate) fn step(&mut self, line: &str) -> io::Result<()> {
+        self.lines = self.lines.saturating_add(1);
+        match parse(self.report.rt.alloc(), line) {
+            Ok(None) => Ok(()),
+            Ok(Some(call)) => self.perform(call),
+            Err(Fault::Malformed(expected)) => self.no_call(expected),
+            Err(Fault::NoMemory) => Err(io::Error::from(AllocError)),
+        }
+    }
+
+    // Says what stands in the place of the line's call, and counts the line.
+    fn no_call(&mut self, expected: impl Display + Drop) -> io::Result<()> {
+        self.bad = self.bad.saturating_add(1);
+        println!(self.report.rt; "line {}: expected {expected}", self.lines)
+    }
+
+    fn perform(&mut self, call: Call) -> io::Result<()> {
+        if let Call::Open {
+            entries,
+            folded,
+            writer,
+            source,
+        } = call
+        {
+            return self.open(entries, folded, writer, &source);
+        }
+        match &mut self.tree {
+            None => self.no_call("`open`, since no tree is open"),
+            Some(OpenTree::Plain(tree)) => self.report.perform(tree, call),
+            Some(OpenTree::Short(tree)) => self.report.perform(tree, call),
+        }
+    }
+
+    // Opens a tree with the writer of that name; where that is refused, the former tree stays open.
+    fn open(
+        &mut self,
+        entries: usize,
+        folded: usize,
+        writer: WriterName,
+        source: &[u16],
+    ) -> io::Result<()> {
+        let heap = self.report.rt.alloc();
+        let opened = match writer {
+            WriterName::Plain => {
+                Tree::open(heap, entries, folded, source, Plain).map(OpenTree::Plain)
+            }
+            WriterName::Short => {
+                Tree::open(heap, entries, folded, source, Short).map(OpenTree::Short)
+            }
+        };
+        match opened {
+            Ok(tree) => {
+                self.tree = Some(tree);
+                self.report.opened()
+            }
+            Err(error) => self.report.not_opened(error),
         }
     }
 }

@@ -1,13 +1,13 @@
-ghost use Rattle.std.specs.Prelude.{◌≡◌};
+// What a script came to, for the lines at its end.
+use std::fmt;
 
-// What a script came to, for the line at its end.
 #[derive(Clone, Copy)]
 pub struct Tally {
     pub trees: u64,
     pub nodes: u64,
     pub bytes: u64,
-    // by number
-    pub refusals: [u64; 12],
+    // by number; a map would take memory at a refusal, and could be refused it
+    refusals: [u64; 12],
 }
 
 impl Tally {
@@ -21,9 +21,26 @@ impl Tally {
     }
 
     pub(crate) fn refuse(&mut self, number: u8) {
-        let i = number as usize;
-        if i < 12 {
-            self.refusals[i] = self.refusals[i].saturating_add(1);
+        if let Some(count) = self.refusals.get_mut(usize::from(number)) {
+            *count = count.saturating_add(1);
         }
+    }
+}
+
+impl fmt::Display for Tally {
+    fn fmt<W: fmt::Write>(&self, f: &mut fmt::Formatter<W>) -> fmt::Result {
+        let Tally {
+            trees,
+            nodes,
+            bytes,
+            refusals,
+        } = *self;
+        write!(f, "summary: trees {trees}, nodes {nodes}, bytes {bytes}")?;
+        for (number, count) in refusals.iter().enumerate() {
+            if *count > 0 {
+                write!(f, "\nrefused with {number}: {count}")?;
+            }
+        }
+        Ok(())
     }
 }

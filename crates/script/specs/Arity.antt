@@ -1,11 +1,11 @@
 -- How many operands a shape takes.
 use Rattle.std.specs.Prelude.{◌≡◌, ℕ, ◌≤◌, vec_len}
-use Rattle.script.specs.declared.calls.ShapeWord.{ShapeWord}
-use Rattle.script.specs.declared.calls.ShapeWord.TheVariants as S
+use Rattle.nodes.specs.declared.shape.Shape.{Shape}
+use Rattle.nodes.specs.declared.shape.Shape.TheVariants as S
 use Rattle.script.specs.declared.calls.Call.{Call}
 use Rattle.script.specs.declared.calls.Call.TheVariants as C
 
-abbrev pub Takes : ShapeWord → ℕ → Type 0
+abbrev pub Takes : Shape → ℕ → Type 0
 Takes (S.Number x) n = n ≡ 0
 Takes (S.String p) n = n ≡ 0
 Takes (S.Boolean b) n = n ≡ 0
@@ -22,7 +22,7 @@ Takes S.Chain n = n ≡ 1
 Takes S.Sequence n = 2 ≤ n
 
 -- The call builds a node of that shape with that many operands.
-abbrev pub Built : Call → ShapeWord → ℕ → Type 0
+abbrev pub Built : Call → Shape → ℕ → Type 0
 Built (C.Open entries folded writer source) s n = ⊥
 Built (C.Name text class) s n = ⊥
 Built (C.Build shape parts) s n = (shape ≡ s) × (vec_len parts ≡ n)

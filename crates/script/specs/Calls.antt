@@ -1,15 +1,10 @@
 -- What a call was written as.
-use Rattle.std.specs.Prelude.{◌≡◌, ℕ, ◌-◌, ◌^◌, List, Some, None, vec_len, codes, Option}
+use Rattle.std.specs.Prelude.{◌≡◌, ℕ, ◌-◌, ◌^◌, List, Some, vec_len, codes}
 use Rattle.script.specs.Arity.{Takes}
-use Rattle.script.specs.Numbers.{integer_to}
+use Rattle.script.specs.Numbers.{counted_to}
 use Rattle.script.specs.Words.{first_word}
 use Rattle.script.specs.declared.calls.Call.{Call}
 use Rattle.script.specs.declared.calls.Call.TheVariants as C
-
--- the integer that stands first, as far as it counts
-abbrev pub counted_to : ℕ → Option (List ℕ) → Option ℕ
-counted_to most None = None
-counted_to most (Some w) = integer_to most w
 
 -- The call by its first word, and what is after that.
 abbrev pub Says : List ℕ → List ℕ → Call → Type 0

@@ -16,3 +16,8 @@ integer_of (c ∷ cs) = value_after 0 (c ∷ cs)
 -- An integer past the largest of a type counts as that.
 abbrev pub integer_to : ℕ → List ℕ → Option ℕ
 integer_to most w = option_map (λ n. min n most) (integer_of w)
+
+-- the integer that stands first, as far as it counts
+abbrev pub counted_to : ℕ → Option (List ℕ) → Option ℕ
+counted_to most None = None
+counted_to most (Some w) = integer_to most w

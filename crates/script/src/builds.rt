@@ -1,170 +1,109 @@
 // The line of a node to build: its shape, and its operands by number.
-ghost use Rattle.std.specs.Prelude.{◌≡◌, ◌≤◌, IfSome, IfOk, vec_len};
+ghost use Rattle.std.specs.Prelude.{◌≡◌, IfSome, IfOk};
 ghost use Rattle.script.specs.Arity.{Takes, Built, Filled};
 
-use crate::calls::{Call, PartWord, Place, ShapeWord};
+use crate::calls::Call;
 use crate::expected::Expected;
 use crate::fault::Fault;
-use crate::numbers::{node, number};
-use crate::operators::{binary_operator, unary_operator};
-use crate::words::Words;
-use std::alloc::Global;
-
-const NO_PLACE: Place = Place { start: 0, len: 0 };
-
-// So many operands.
-fn operands(heap: Global, words: &mut Words<'_>, count: usize) -> Result<Vec<PartWord>, Fault>
-    ensures { IfOk result (λ parts. vec_len parts ≡ count) }
-{
-    let mut parts = Vec::new(heap);
-    for taken in 0..count {
-        let node = node(words.field(Expected::Node)?)?;
-        parts.push(PartWord {
-            node,
-            after: NO_PLACE,
-        })?;
-    }
-    Ok(parts)
-}
-
-// These operands, and more to the end of the line.
-fn more_operands(words: &mut Words<'_>, first: Vec<PartWord>) -> Result<Vec<PartWord>, Fault>
-    ensures { IfOk result (λ parts. vec_len first ≤ vec_len parts) }
-{
-    let mut parts = first;
-    while let Some(word) = words.word() {
-        let node = node(word)?;
-        parts.push(PartWord {
-            node,
-            after: NO_PLACE,
-        })?;
-    }
-    Ok(parts)
-}
-
-// A template's substitutions, each with the raw part that follows it.
-fn substitutions(heap: Global, words: &mut Words<'_>) -> Result<Vec<PartWord>, Fault> {
-    let mut parts = Vec::new(heap);
-    while let Some(word) = words.word() {
-        let node = node(word)?;
-        let after = words.place()?;
-        parts.push(PartWord { node, after })?;
-    }
-    Ok(parts)
-}
+use crate::fields::Fields;
+use nodes::shape::Shape;
 
 // A shape that takes so many operands, and the operands.
-fn with_operands(
-    heap: Global,
-    words: &mut Words<'_>,
-    shape: ShapeWord,
-    count: usize,
-) -> Result<Call, Fault>
+fn with_operands(fields: &mut Fields<'_>, shape: Shape, count: usize) -> Result<Call, Fault>
     ensures { IfOk result (λ call. Built call shape count) }
 {
-    let parts = operands(heap, words, count)?;
+    let parts = fields.operands(count)?;
     Ok(Call::Build { shape, parts })
 }
 
-fn member(heap: Global, words: &mut Words<'_>) -> Result<Call, Fault>
+fn member(fields: &mut Fields<'_>) -> Result<Call, Fault>
     ensures { IfOk result Filled }
 {
-    let parts = operands(heap, words, 1)?;
-    let name = words.place()?;
-    let optional = words.optional();
-    Ok(Call::Build {
-        shape: ShapeWord::Member { name, optional },
-        parts,
-    })
+    let parts = fields.operands(1)?;
+    let name = fields.place()?;
+    let optional = fields.optional();
+    let shape = Shape::Member { name, optional };
+    Ok(Call::Build { shape, parts })
 }
 
-fn index(heap: Global, words: &mut Words<'_>) -> Result<Call, Fault>
+fn index(fields: &mut Fields<'_>) -> Result<Call, Fault>
     ensures { IfOk result Filled }
 {
-    let parts = operands(heap, words, 2)?;
-    let optional = words.optional();
-    Ok(Call::Build {
-        shape: ShapeWord::Index { optional },
-        parts,
-    })
+    let parts = fields.operands(2)?;
+    let optional = fields.optional();
+    let shape = Shape::Index { optional };
+    Ok(Call::Build { shape, parts })
 }
 
 // The callee, perhaps the mark `optional`, and the arguments.
-fn invocation(heap: Global, words: &mut Words<'_>) -> Result<Call, Fault>
+fn invocation(fields: &mut Fields<'_>) -> Result<Call, Fault>
     ensures { IfOk result Filled }
 {
-    let callee = operands(heap, words, 1)?;
-    let optional = words.optional();
-    let parts = more_operands(words, callee)?;
-    Ok(Call::Build {
-        shape: ShapeWord::Call { optional },
-        parts,
-    })
+    let callee = fields.operands(1)?;
+    let optional = fields.optional();
+    let parts = fields.more_operands(callee)?;
+    let shape = Shape::Call { optional };
+    Ok(Call::Build { shape, parts })
 }
 
-fn sequence(heap: Global, words: &mut Words<'_>) -> Result<Call, Fault>
+fn sequence(fields: &mut Fields<'_>) -> Result<Call, Fault>
     ensures { IfOk result Filled }
 {
-    let first = operands(heap, words, 2)?;
-    let parts = more_operands(words, first)?;
-    Ok(Call::Build {
-        shape: ShapeWord::Sequence,
-        parts,
-    })
+    let first = fields.operands(2)?;
+    let parts = fields.more_operands(first)?;
+    let shape = Shape::Sequence;
+    Ok(Call::Build { shape, parts })
 }
 
-fn template(heap: Global, words: &mut Words<'_>) -> Result<Call, Fault>
+fn template(fields: &mut Fields<'_>) -> Result<Call, Fault>
     ensures { IfOk result Filled }
 {
-    let head = words.place()?;
-    let parts = substitutions(heap, words)?;
-    Ok(Call::Build {
-        shape: ShapeWord::Template(head),
-        parts,
-    })
+    let shape = Shape::Template(fields.place()?);
+    let parts = fields.substitutions()?;
+    Ok(Call::Build { shape, parts })
 }
 
 // A shape that has no operand.
-fn leaf(words: &mut Words<'_>, name: &str) -> Result<Option<ShapeWord>, Expected>
+fn leaf(fields: &mut Fields<'_>, name: &str) -> Result<Option<Shape>, Expected>
     ensures { IfOk result (λ found. IfSome found (λ shape. Takes shape 0)) }
 {
     let shape = match name {
-        "number" => ShapeWord::Number(number(words.field(Expected::Number)?)?),
-        "string" => ShapeWord::String(words.place()?),
-        "boolean" => ShapeWord::Boolean(words.boolean()?),
-        "null" => ShapeWord::Null,
-        "name" => ShapeWord::Name(node(words.field(Expected::Node)?)?),
-        "array" => ShapeWord::EmptyArray,
+        "number" => Shape::Number(fields.number()?),
+        "string" => Shape::String(fields.place()?),
+        "boolean" => Shape::Boolean(fields.boolean()?),
+        "null" => Shape::Null,
+        "name" => Shape::Name(fields.node()?),
+        "array" => Shape::EmptyArray,
         _ => return Ok(None),
     };
     Ok(Some(shape))
 }
 
 // The call that builds a node, from after the word `build`.
-pub(crate) fn build_call(heap: Global, words: &mut Words<'_>) -> Result<Call, Fault>
+pub(crate) fn build_call(fields: &mut Fields<'_>) -> Result<Call, Fault>
     ensures { IfOk result Filled }
 {
-    let name = words.field(Expected::Shape)?;
-    if let Some(shape) = leaf(words, name)? {
-        return with_operands(heap, words, shape, 0);
+    let name = fields.field(Expected::Shape)?;
+    if let Some(shape) = leaf(fields, name)? {
+        return with_operands(fields, shape, 0);
     }
     match name {
         "unary" => {
-            let word = words.field(Expected::UnaryOperator)?;
-            let operator = unary_operator(word).ok_or(Expected::UnaryOperator)?;
-            with_operands(heap, words, ShapeWord::Unary(operator), 1)
+            let word = fields.field(Expected::UnaryOperator)?;
+            let operator = word.parse().or(Err(Expected::UnaryOperator))?;
+            with_operands(fields, Shape::Unary(operator), 1)
         }
         "binary" => {
-            let word = words.field(Expected::BinaryOperator)?;
-            let operator = binary_operator(word).ok_or(Expected::BinaryOperator)?;
-            with_operands(heap, words, ShapeWord::Binary(operator), 2)
+            let word = fields.field(Expected::BinaryOperator)?;
+            let operator = word.parse().or(Err(Expected::BinaryOperator))?;
+            with_operands(fields, Shape::Binary(operator), 2)
         }
-        "chain" => with_operands(heap, words, ShapeWord::Chain, 1),
-        "member" => member(heap, words),
-        "index" => index(heap, words),
-        "call" => invocation(heap, words),
-        "sequence" => sequence(heap, words),
-        "template" => template(heap, words),
+        "chain" => with_operands(fields, Shape::Chain, 1),
+        "member" => member(fields),
+        "index" => index(fields),
+        "call" => invocation(fields),
+        "sequence" => sequence(fields),
+        "template" => template(fields),
         _ => Err(Fault::Malformed(Expected::Shape)),
     }
 }

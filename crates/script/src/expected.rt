@@ -1,8 +1,10 @@
 // What a line that is no call should have had.
-ghost use Rattle.std.specs.Prelude.{◌≡◌};
+ghost use Rattle.std.specs.Prelude.{◌≡◌, Some};
 ghost use Rattle.script.specs.Wording.{wording};
 
-#[derive(Clone, Copy)]
+use std::fmt;
+
+#[derive(Clone, Copy, Debug, PartialEq, Eq)]
 pub enum Expected {
     Verb,
     Integer,
@@ -48,5 +50,13 @@ impl Expected {
             Expected::BinaryOperator => "a binary operator",
             Expected::End => "the end of the line",
         }
+    }
+}
+
+impl fmt::Display for Expected {
+    ghost output = { λ expected. Some (wording expected) };
+
+    fn fmt<W: fmt::Write>(&self, f: &mut fmt::Formatter<W>) -> fmt::Result {
+        f.write_str(self.text())
     }
 }

@@ -19,9 +19,8 @@
 mod builds;
 pub mod calls;
 pub mod expected;
-mod fault;
+pub mod fault;
+mod fields;
 pub mod lines;
 mod numbers;
-mod operators;
 mod quoted;
-mod words;

@@ -29,39 +29,29 @@ pub(crate) fn integer(word: &str) -> Result<usize, Expected>
 pub(crate) fn node(word: &str) -> Result<u16, Expected>
     ensures { result_ok result ≡ integer_to (2 ^ 16 - 1) word.now }
 {
-    Ok(integer(word)?.min(0xffff) as u16)
+    Ok(u16::try_from(integer(word)?).unwrap_or(u16::MAX))
 }
 
 // A number of 16-bit units.
 pub(crate) fn extent(word: &str) -> Result<u32, Expected>
     ensures { result_ok result ≡ integer_to (2 ^ 32 - 1) word.now }
 {
-    Ok(integer(word)?.min(0xffff_ffff) as u32)
+    Ok(u32::try_from(integer(word)?).unwrap_or(u32::MAX))
 }
 
 // A decimal number with fraction and exponent, or one of the three that JavaScript gives a name.
-pub(crate) fn number(word: &str) -> Result<f64, Expected> {
+pub(crate) fn decimal(word: &str) -> Result<f64, Expected> {
     match word {
         "NaN" => Ok(f64::NAN),
         "Infinity" => Ok(f64::INFINITY),
         "-Infinity" => Ok(f64::NEG_INFINITY),
-        _ => {
-            if is_decimal(word) {
-                word.parse::<f64>().ok().ok_or(Expected::Number)
-            } else {
-                Err(Expected::Number)
-            }
-        }
+        _ if is_decimal(word) => word.parse::<f64>().or(Err(Expected::Number)),
+        _ => Err(Expected::Number),
     }
 }
 
 // Whether only what a decimal number is made of stands here: `parse` would take `inf` and `+1` too.
 fn is_decimal(word: &str) -> bool {
-    for byte in word.as_bytes() {
-        match *byte {
-            b'0'..=b'9' | b'.' | b'e' | b'E' | b'+' | b'-' => {}
-            _ => return false,
-        }
-    }
-    !word.starts_with('+')
+    word.bytes().all(|byte| matches!(byte, b'0'..=b'9' | b'.' | b'e' | b'E' | b'+' | b'-'))
+        && !word.starts_with('+')
 }

@@ -1,102 +1,111 @@
 // What was read of a line, as text.
-use script::calls::{Call, ClassWord, ConstantWord, PartWord, Place, ShapeWord, WriterName};
-use script::lines::{Line, parse};
+use names::table::{Class, Value};
+use nodes::shape::{Part, Shape};
+use script::calls::{Call, WriterName};
+use script::fault::Fault;
+use script::lines::parse;
 use std::alloc::{AllocError, Global};
+use std::fmt;
+use units::span::Span;
 
-fn place_text(heap: Global, place: Place) -> Result<String, AllocError> {
-    format!(in heap; "{}+{}", place.start, place.len)
-}
+// A value as the table shows it.
+#[derive(Drop)]
+struct Shown<T>(T);
 
-fn constant_text(heap: Global, constant: ConstantWord) -> Result<String, AllocError> {
-    match constant {
-        ConstantWord::Number(x) => format!(in heap; "number {x:?}"),
-        ConstantWord::String(place) => {
-            let place = place_text(heap, place)?;
-            format!(in heap; "string {place}")
-        }
-        ConstantWord::Boolean(b) => format!(in heap; "boolean {b}"),
-        ConstantWord::Null => format!(in heap; "null"),
-        ConstantWord::Undefined => format!(in heap; "undefined"),
+impl fmt::Display for Shown<Span> {
+    fn fmt<W: fmt::Write>(&self, f: &mut fmt::Formatter<W>) -> fmt::Result {
+        let span = self.0;
+        write!(f, "{}+{}", span.start, span.len)
     }
 }
 
-fn class_text(heap: Global, class: ClassWord) -> Result<String, AllocError> {
-    match class {
-        ClassWord::Free => format!(in heap; "free"),
-        ClassWord::Bound => format!(in heap; "bound"),
-        ClassWord::Constant { value, inlined } => {
-            let value = constant_text(heap, value)?;
-            format!(in heap; "constant {value} {inlined}")
+impl fmt::Display for Shown<Value> {
+    fn fmt<W: fmt::Write>(&self, f: &mut fmt::Formatter<W>) -> fmt::Result {
+        match self.0 {
+            Value::Number(x) => write!(f, "number {x:?}"),
+            Value::String(span) => write!(f, "string {}", Shown(span)),
+            Value::Boolean(b) => write!(f, "boolean {b}"),
+            Value::Null => write!(f, "null"),
+            Value::Undefined => write!(f, "undefined"),
         }
     }
 }
 
-fn shape_text(heap: Global, shape: ShapeWord) -> Result<String, AllocError> {
-    match shape {
-        ShapeWord::Number(x) => format!(in heap; "number {x:?}"),
-        ShapeWord::String(place) => format!(in heap; "string {}+{}", place.start, place.len),
-        ShapeWord::Boolean(b) => format!(in heap; "boolean {b}"),
-        ShapeWord::Null => format!(in heap; "null"),
-        ShapeWord::Name(index) => format!(in heap; "name {index}"),
-        ShapeWord::EmptyArray => format!(in heap; "array"),
-        ShapeWord::Unary(operator) => format!(in heap; "unary {:?}", operator.text()),
-        ShapeWord::Binary(operator) => format!(in heap; "binary {:?}", operator.text()),
-        ShapeWord::Template(place) => format!(in heap; "template {}+{}", place.start, place.len),
-        ShapeWord::Member { name, optional } => format!(in heap;
-            "member {}+{} {optional}",
-            name.start, name.len
-        ),
-        ShapeWord::Index { optional } => format!(in heap; "index {optional}"),
-        ShapeWord::Call { optional } => format!(in heap; "call {optional}"),
-        ShapeWord::Chain => format!(in heap; "chain"),
-        ShapeWord::Sequence => format!(in heap; "sequence"),
+impl fmt::Display for Shown<Class> {
+    fn fmt<W: fmt::Write>(&self, f: &mut fmt::Formatter<W>) -> fmt::Result {
+        match self.0 {
+            Class::Free => write!(f, "free"),
+            Class::Bound => write!(f, "bound"),
+            Class::Constant { value, inlined } => write!(f, "constant {} {inlined}", Shown(value)),
+        }
     }
 }
 
-fn parts_text(heap: Global, parts: &[PartWord]) -> Result<String, AllocError> {
-    let mut text = String::new(heap);
-    for part in parts {
-        let after = place_text(heap, part.after)?;
-        let node = part.node;
-        let one = format!(in heap; " {node}:{after}")?;
-        text.push_str(one.as_str())?;
+impl fmt::Display for Shown<Shape> {
+    fn fmt<W: fmt::Write>(&self, f: &mut fmt::Formatter<W>) -> fmt::Result {
+        match self.0 {
+            Shape::Number(x) => write!(f, "number {x:?}"),
+            Shape::String(span) => write!(f, "string {}", Shown(span)),
+            Shape::Boolean(b) => write!(f, "boolean {b}"),
+            Shape::Null => write!(f, "null"),
+            Shape::Name(index) => write!(f, "name {index}"),
+            Shape::EmptyArray => write!(f, "array"),
+            Shape::Unary(operator) => write!(f, "unary {:?}", operator.text()),
+            Shape::Binary(operator) => write!(f, "binary {:?}", operator.text()),
+            Shape::Template(head) => write!(f, "template {}", Shown(head)),
+            Shape::Member { name, optional } => write!(f, "member {} {optional}", Shown(name)),
+            Shape::Index { optional } => write!(f, "index {optional}"),
+            Shape::Call { optional } => write!(f, "call {optional}"),
+            Shape::Chain => write!(f, "chain"),
+            Shape::Sequence => write!(f, "sequence"),
+        }
     }
-    Ok(text)
 }
 
-fn call_text(heap: Global, call: &Call) -> Result<String, AllocError> {
-    match call {
-        Call::Open {
-            entries,
-            folded,
-            writer,
-            source,
-        } => {
-            let writer = match writer {
-                WriterName::Plain => "plain",
-                WriterName::Short => "short",
-            };
-            format!(in heap; "open {entries} {folded} {writer} {source:?}")
+impl fmt::Display for Shown<&[Part]> {
+    fn fmt<W: fmt::Write>(&self, f: &mut fmt::Formatter<W>) -> fmt::Result {
+        for part in self.0 {
+            write!(f, " {}:{}", part.node, Shown(part.after))?;
         }
-        Call::Name { text, class } => {
-            let class = class_text(heap, *class)?;
-            format!(in heap; "name {text:?} {class}")
+        Ok(())
+    }
+}
+
+impl fmt::Display for Shown<WriterName> {
+    fn fmt<W: fmt::Write>(&self, f: &mut fmt::Formatter<W>) -> fmt::Result {
+        match self.0 {
+            WriterName::Plain => write!(f, "plain"),
+            WriterName::Short => write!(f, "short"),
         }
-        Call::Build { shape, parts } => {
-            let shape = shape_text(heap, *shape)?;
-            let parts = parts_text(heap, parts.as_slice())?;
-            format!(in heap; "build {shape}{parts}")
+    }
+}
+
+impl fmt::Display for Shown<&Call> {
+    fn fmt<W: fmt::Write>(&self, f: &mut fmt::Formatter<W>) -> fmt::Result {
+        match self.0 {
+            Call::Open {
+                entries,
+                folded,
+                writer,
+                source,
+            } => write!(f, "open {entries} {folded} {} {source:?}", Shown(*writer)),
+            Call::Name { text, class } => write!(f, "name {text:?} {}", Shown(*class)),
+            Call::Build { shape, parts } => {
+                let parts = parts.as_slice();
+                write!(f, "build {}{}", Shown(*shape), Shown(parts))
+            }
+            Call::Root(node) => write!(f, "root {node}"),
+            Call::Read(node) => write!(f, "read {node}"),
+            Call::Print(capacity) => write!(f, "print {capacity}"),
         }
-        Call::Root(node) => format!(in heap; "root {node}"),
-        Call::Read(node) => format!(in heap; "read {node}"),
-        Call::Print(capacity) => format!(in heap; "print {capacity}"),
     }
 }
 
 pub(crate) fn line_text(heap: Global, line: &str) -> Result<String, AllocError> {
-    match parse(heap, line)? {
-        Line::Blank => format!(in heap; "blank"),
-        Line::Call(call) => call_text(heap, &call),
-        Line::Bad(expected) => format!(in heap; "bad: {}", expected.text()),
+    match parse(heap, line) {
+        Ok(None) => format!(in heap; "blank"),
+        Ok(Some(call)) => format!(in heap; "{}", Shown(&call)),
+        Err(Fault::Malformed(expected)) => format!(in heap; "bad: {expected}"),
+        Err(Fault::NoMemory) => Err(AllocError),
     }
 }

@@ -1,3 +1,4 @@
 pub mod Operators
+pub mod Written
 pub mod Expr
 pub mod Names

@@ -1,8 +1,13 @@
 ghost use Rattle.std.specs.Prelude.{◌≡◌, IfSome};
 ghost use Rattle.syntax.specs.Operators.{unary_of, binary_of, un_text, bin_text};
+ghost use Rattle.syntax.specs.Written.{UnaryWord, BinaryWord, Reads};
+
+use std::error::Error;
+use std::fmt;
+use std::str::FromStr;
 
 // oxc's operators. `Delete` is there so that it can be refused by name.
-#[derive(Clone, Copy)]
+#[derive(Clone, Copy, Debug, PartialEq, Eq)]
 pub enum UnaryOperator {
     UnaryNegation,
     UnaryPlus,
@@ -14,7 +19,7 @@ pub enum UnaryOperator {
 }
 
 // `In` and `Instanceof` are there so that they can be refused by name.
-#[derive(Clone, Copy)]
+#[derive(Clone, Copy, Debug, PartialEq, Eq)]
 pub enum BinaryOperator {
     Equality,
     Inequality,
@@ -39,6 +44,18 @@ pub enum BinaryOperator {
     In,
     Instanceof,
 }
+
+// A word that writes no operator.
+#[derive(Clone, Copy, Debug, PartialEq, Eq)]
+pub struct NoOperator;
+
+impl fmt::Display for NoOperator {
+    fn fmt<W: fmt::Write>(&self, f: &mut fmt::Formatter<W>) -> fmt::Result {
+        f.write_str("no operator")
+    }
+}
+
+impl Error for NoOperator {}
 
 impl UnaryOperator {
     // The operator as it is written.
@@ -85,6 +102,59 @@ impl BinaryOperator {
             BinaryOperator::BitwiseAnd => b"&",
             BinaryOperator::In => b"in",
             BinaryOperator::Instanceof => b"instanceof",
+        }
+    }
+}
+
+impl FromStr for UnaryOperator {
+    type Err = NoOperator;
+
+    ghost from_str_gives = { Reads UnaryWord };
+
+    fn from_str(word: &str) -> Result<UnaryOperator, NoOperator> {
+        match word {
+            "-" => Ok(UnaryOperator::UnaryNegation),
+            "+" => Ok(UnaryOperator::UnaryPlus),
+            "!" => Ok(UnaryOperator::LogicalNot),
+            "~" => Ok(UnaryOperator::BitwiseNot),
+            "typeof" => Ok(UnaryOperator::Typeof),
+            "void" => Ok(UnaryOperator::Void),
+            "delete" => Ok(UnaryOperator::Delete),
+            _ => Err(NoOperator),
+        }
+    }
+}
+
+impl FromStr for BinaryOperator {
+    type Err = NoOperator;
+
+    ghost from_str_gives = { Reads BinaryWord };
+
+    fn from_str(word: &str) -> Result<BinaryOperator, NoOperator> {
+        match word {
+            "==" => Ok(BinaryOperator::Equality),
+            "!=" => Ok(BinaryOperator::Inequality),
+            "===" => Ok(BinaryOperator::StrictEquality),
+            "!==" => Ok(BinaryOperator::StrictInequality),
+            "<" => Ok(BinaryOperator::LessThan),
+            "<=" => Ok(BinaryOperator::LessEqualThan),
+            ">" => Ok(BinaryOperator::GreaterThan),
+            ">=" => Ok(BinaryOperator::GreaterEqualThan),
+            "+" => Ok(BinaryOperator::Addition),
+            "-" => Ok(BinaryOperator::Subtraction),
+            "*" => Ok(BinaryOperator::Multiplication),
+            "/" => Ok(BinaryOperator::Division),
+            "%" => Ok(BinaryOperator::Remainder),
+            "**" => Ok(BinaryOperator::Exponential),
+            "<<" => Ok(BinaryOperator::ShiftLeft),
+            ">>" => Ok(BinaryOperator::ShiftRight),
+            ">>>" => Ok(BinaryOperator::ShiftRightZeroFill),
+            "|" => Ok(BinaryOperator::BitwiseOR),
+            "^" => Ok(BinaryOperator::BitwiseXOR),
+            "&" => Ok(BinaryOperator::BitwiseAnd),
+            "in" => Ok(BinaryOperator::In),
+            "instanceof" => Ok(BinaryOperator::Instanceof),
+            _ => Err(NoOperator),
         }
     }
 }

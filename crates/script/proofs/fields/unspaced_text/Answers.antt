@@ -1,7 +1,7 @@
 use Rattle.std.proofs.Common.{None, sym, ◌∙◌, arith}
 use Rattle.std.proofs.lemmas.Str.Pattern.{strip_prefix_char}
 use Rattle.script.proofs.Spaces.{unspaced_same}
-use Rattle.script.proofs.words.unspaced_text.Goals as goal
+use Rattle.script.proofs.fields.unspaced_text.Goals as goal
 
 pub returns : goal.returns
 returns c =

@@ -1,16 +1,24 @@
 // The fields of a line, from left to right. Spaces separate them, and a `#` where one could begin
 // makes the rest of the line a comment.
-ghost use Rattle.std.specs.Prelude.{◌≡◌, ◌<◌, ◌≤◌, length, OnSome};
+ghost use Rattle.std.specs.Prelude.{◌≡◌, ◌-◌, ◌^◌, ◌<◌, ◌≤◌, length, vec_len, OnSome, IfOk};
 ghost use Rattle.std.specs.Option.{option_map};
 ghost use Rattle.std.specs.Result.{result_ok};
+ghost use Rattle.script.specs.Numbers.{counted_to};
 ghost use Rattle.script.specs.Words.{unspaced, over, first_word, after_first};
 
-use crate::calls::Place;
 use crate::expected::Expected;
 use crate::fault::Fault;
-use crate::numbers::extent;
+use crate::numbers::{decimal, extent, integer, node};
 use crate::quoted::{bare, quoted};
+use nodes::shape::Part;
 use std::alloc::Global;
+use units::span::{Span, Text};
+
+const NO_SPAN: Span = Span {
+    text: Text::Source,
+    start: 0,
+    len: 0,
+};
 
 fn unspaced_text(text: &str) -> &str
     ensures { result.now ≡ unspaced text.now }
@@ -28,16 +36,26 @@ fn is_over(text: &str) -> bool
     text.is_empty() || text.starts_with('#')
 }
 
+// An operand, which no raw part follows.
+fn operand(node: u16) -> Part {
+    Part {
+        node,
+        after: NO_SPAN,
+    }
+}
+
+// What is left of a line, and where texts and lists that are read of it are kept.
 #[derive(Drop)]
-pub struct Words<'a> {
+pub struct Fields<'a> {
+    heap: Global,
     rest: &'a str,
 }
 
-impl<'a> Words<'a> {
-    pub(crate) fn new(line: &'a str) -> Words<'a>
+impl<'a> Fields<'a> {
+    pub(crate) fn new(heap: Global, line: &'a str) -> Fields<'a>
         ensures { result.rest.now ≡ line.now }
     {
-        Words { rest: line }
+        Fields { heap, rest: line }
     }
 
     // The next word; none where the line ends or a comment begins.
@@ -71,12 +89,33 @@ impl<'a> Words<'a> {
         self.word().ok_or(expected)
     }
 
-    pub(crate) fn place(&mut self) -> Result<Place, Expected>
+    pub(crate) fn integer(&mut self) -> Result<usize, Expected>
+        ensures { result_ok result ≡ counted_to (2 ^ 64 - 1) (first_word self.old.rest.now) }
+    {
+        integer(self.field(Expected::Integer)?)
+    }
+
+    pub(crate) fn node(&mut self) -> Result<u16, Expected>
+        ensures { result_ok result ≡ counted_to (2 ^ 16 - 1) (first_word self.old.rest.now) }
+    {
+        node(self.field(Expected::Node)?)
+    }
+
+    pub(crate) fn number(&mut self) -> Result<f64, Expected> {
+        decimal(self.field(Expected::Number)?)
+    }
+
+    // A part of the source text.
+    pub(crate) fn place(&mut self) -> Result<Span, Expected>
         ensures { length self.new.rest.now ≤ length self.old.rest.now }
     {
         let start = extent(self.field(Expected::Extent)?)?;
         let len = extent(self.field(Expected::Extent)?)?;
-        Ok(Place { start, len })
+        Ok(Span {
+            text: Text::Source,
+            start,
+            len,
+        })
     }
 
     pub(crate) fn boolean(&mut self) -> Result<bool, Expected> {
@@ -97,14 +136,47 @@ impl<'a> Words<'a> {
         false
     }
 
+    // So many operands.
+    pub(crate) fn operands(&mut self, count: usize) -> Result<Vec<Part>, Fault>
+        ensures { IfOk result (λ parts. vec_len parts ≡ count) }
+    {
+        let mut parts = Vec::new(self.heap);
+        for taken in 0..count {
+            parts.push(operand(self.node()?))?;
+        }
+        Ok(parts)
+    }
+
+    // These operands, and more to the end of the line.
+    pub(crate) fn more_operands(&mut self, first: Vec<Part>) -> Result<Vec<Part>, Fault>
+        ensures { IfOk result (λ parts. vec_len first ≤ vec_len parts) }
+    {
+        let mut parts = first;
+        while let Some(word) = self.word() {
+            parts.push(operand(node(word)?))?;
+        }
+        Ok(parts)
+    }
+
+    // A template's substitutions, each with the raw part that follows it.
+    pub(crate) fn substitutions(&mut self) -> Result<Vec<Part>, Fault> {
+        let mut parts = Vec::new(self.heap);
+        while let Some(word) = self.word() {
+            let node = node(word)?;
+            let after = self.place()?;
+            parts.push(Part { node, after })?;
+        }
+        Ok(parts)
+    }
+
     // A JSON string, if one is next.
-    pub(crate) fn string(&mut self, heap: Global) -> Result<Option<Vec<u16>>, Fault> {
+    pub(crate) fn string(&mut self) -> Result<Option<Vec<u16>>, Fault> {
         let text = unspaced_text(self.rest);
         let Some(inside) = text.strip_prefix('"') else {
             return Ok(None);
         };
         let mut chars = inside.chars();
-        let units = quoted(heap, &mut chars)?;
+        let units = quoted(self.heap, &mut chars)?;
         self.rest = chars.as_str();
         if self.rest.is_empty() || self.rest.starts_with(' ') {
             Ok(Some(units))
@@ -114,12 +186,12 @@ impl<'a> Words<'a> {
     }
 
     // A name's text: a JSON string or a bare word.
-    pub(crate) fn text(&mut self, heap: Global) -> Result<Vec<u16>, Fault> {
-        if let Some(units) = self.string(heap)? {
+    pub(crate) fn text(&mut self) -> Result<Vec<u16>, Fault> {
+        if let Some(units) = self.string()? {
             return Ok(units);
         }
         match self.word() {
-            Some(word) => bare(heap, word),
+            Some(word) => bare(self.heap, word),
             None => Err(Fault::Malformed(Expected::NameText)),
         }
     }

@@ -1,5 +1,5 @@
 use Rattle.std.proofs.Common.{◌≡◌, vec_len}
-use Rattle.script.proofs.builds.operands.Given as goal
+use Rattle.script.proofs.fields.Fields.operands.Given as goal
 
 abbrev pub invariant-loop-taken : goal.invariant-loop-taken
 invariant-loop-taken l = vec_len l.parts ≡ l.taken

@@ -2,7 +2,7 @@ use Rattle.std.proofs.Common.{◌≡◌, false, ◌∷◌, length, Some, None, a
 use Rattle.std.proofs.lemmas.Str.Pattern.{split_parts}
 use Rattle.script.specs.Words.{over, to_space, past_space}
 use Rattle.script.proofs.Spaces.{word_at, to_space_lem, past_space_lem, to_end, past_end, unspaced-length, over_some}
-use Rattle.script.proofs.words.Words.word.Goals as goal
+use Rattle.script.proofs.fields.Fields.word.Goals as goal
 
 pub returns-in-Some : goal.returns-in-Some
 returns-in-Some c =

@@ -1,7 +1,7 @@
 use Rattle.std.proofs.Common.{arith}
 use Rattle.std.proofs.lemmas.Str.Pattern.{starts_char}
 use Rattle.script.proofs.Spaces.{over_from_starts}
-use Rattle.script.proofs.words.is_over.Goals as goal
+use Rattle.script.proofs.fields.is_over.Goals as goal
 
 pub returns-else-is_empty : goal.returns-else-is_empty
 returns-else-is_empty c =
