@@ -1,7 +1,9 @@
--- How a message names what a line should have had.
-use Rattle.std.specs.Prelude.{ℕ, List, codes}
+-- How a message names what a line should have had, and why it is not read.
+use Rattle.std.specs.Prelude.{ℕ, List, ◌++◌, codes}
 use Rattle.script.specs.declared.expected.Expected.{Expected}
 use Rattle.script.specs.declared.expected.Expected.TheVariants as E
+use Rattle.script.specs.declared.fault.Fault.{Fault}
+use Rattle.script.specs.declared.fault.Fault.TheVariants as F
 
 abbrev pub wording : Expected → List ℕ
 wording E.Verb = codes "`open`, `name`, `build`, `root`, `read` or `print`"
@@ -22,3 +24,7 @@ wording E.Shape = codes "a shape"
 wording E.UnaryOperator = codes "a unary operator"
 wording E.BinaryOperator = codes "a binary operator"
 wording E.End = codes "the end of the line"
+
+abbrev pub fault_wording : Fault → List ℕ
+fault_wording (F.Malformed expected) = codes "expected " ++ wording expected
+fault_wording F.NoMemory = codes "no memory"

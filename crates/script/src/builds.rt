@@ -1,6 +1,7 @@
 // The line of a node to build: its shape, and its operands by number.
 ghost use Rattle.std.specs.Prelude.{◌≡◌, IfSome, IfOk};
 ghost use Rattle.script.specs.Arity.{Takes, Built, Filled};
+ghost use Rattle.script.specs.Places.{IsShapeInSource};
 
 use crate::calls::Call;
 use crate::expected::Expected;
@@ -65,7 +66,7 @@ fn template(fields: &mut Fields<'_>) -> Result<Call, Fault>
 
 // A shape that has no operand.
 fn leaf(fields: &mut Fields<'_>, name: &str) -> Result<Option<Shape>, Expected>
-    ensures { IfOk result (λ found. IfSome found (λ shape. Takes shape 0)) }
+    ensures { IfOk result (λ found. IfSome found (λ shape. Takes shape 0 × IsShapeInSource shape)) }
 {
     let shape = match name {
         "number" => Shape::Number(fields.number()?),

@@ -1,6 +1,10 @@
 // Why a line is not read as a call.
+ghost use Rattle.std.specs.Prelude.{◌≡◌, Some};
+ghost use Rattle.script.specs.Wording.{fault_wording};
+ghost use Rattle.script.specs.declared.fault.Fault.TheVariants.{Malformed, NoMemory};
+
 use crate::expected::Expected;
-use std::alloc::AllocFailed;
+use std::alloc::{AllocError, AllocFailed};
 use std::error::Error;
 use std::fmt;
 
@@ -11,6 +15,8 @@ pub enum Fault {
 }
 
 impl fmt::Display for Fault {
+    ghost output = { λ fault. Some (fault_wording fault) };
+
     fn fmt<W: fmt::Write>(&self, f: &mut fmt::Formatter<W>) -> fmt::Result {
         match self {
             Fault::Malformed(expected) => write!(f, "expected {expected}"),
@@ -22,12 +28,24 @@ impl fmt::Display for Fault {
 impl Error for Fault {}
 
 impl From<Expected> for Fault {
+    ghost from_gives = { λ expected fault. fault ≡ Malformed expected };
+
     fn from(expected: Expected) -> Fault {
         Fault::Malformed(expected)
     }
 }
 
+impl From<AllocError> for Fault {
+    ghost from_gives = { λ _ fault. fault ≡ NoMemory };
+
+    fn from(_refused: AllocError) -> Fault {
+        Fault::NoMemory
+    }
+}
+
 impl<T: Drop> From<AllocFailed<T>> for Fault {
+    ghost from_gives = { λ _ fault. fault ≡ NoMemory };
+
     fn from(_refused: AllocFailed<T>) -> Fault {
         Fault::NoMemory
     }

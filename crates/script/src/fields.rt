@@ -4,6 +4,7 @@ ghost use Rattle.std.specs.Prelude.{◌≡◌, ◌-◌, ◌^◌, ◌<◌, ◌≤
 ghost use Rattle.std.specs.Option.{option_map};
 ghost use Rattle.std.specs.Result.{result_ok};
 ghost use Rattle.script.specs.Numbers.{counted_to};
+ghost use Rattle.script.specs.Places.{IsInSource, ArePartsInSource};
 ghost use Rattle.script.specs.Words.{unspaced, over, first_word, after_first};
 
 use crate::expected::Expected;
@@ -37,7 +38,9 @@ fn is_over(text: &str) -> bool
 }
 
 // An operand, which no raw part follows.
-fn operand(node: u16) -> Part {
+fn operand(node: u16) -> Part
+    ensures { IsInSource result.after }
+{
     Part {
         node,
         after: NO_SPAN,
@@ -107,7 +110,8 @@ impl<'a> Fields<'a> {
 
     // A part of the source text.
     pub(crate) fn place(&mut self) -> Result<Span, Expected>
-        ensures { length self.new.rest.now ≤ length self.old.rest.now }
+        ensures text { IfOk result IsInSource }
+        ensures shorter { length self.new.rest.now ≤ length self.old.rest.now }
     {
         let start = extent(self.field(Expected::Extent)?)?;
         let len = extent(self.field(Expected::Extent)?)?;
@@ -138,7 +142,8 @@ impl<'a> Fields<'a> {
 
     // So many operands.
     pub(crate) fn operands(&mut self, count: usize) -> Result<Vec<Part>, Fault>
-        ensures { IfOk result (λ parts. vec_len parts ≡ count) }
+        ensures count { IfOk result (λ parts. vec_len parts ≡ count) }
+        ensures places { IfOk result (λ parts. ArePartsInSource parts.items) }
     {
         let mut parts = Vec::new(self.heap);
         for taken in 0..count {
@@ -149,7 +154,9 @@ impl<'a> Fields<'a> {
 
     // These operands, and more to the end of the line.
     pub(crate) fn more_operands(&mut self, first: Vec<Part>) -> Result<Vec<Part>, Fault>
-        ensures { IfOk result (λ parts. vec_len first ≤ vec_len parts) }
+        requires { ArePartsInSource first.items }
+        ensures count { IfOk result (λ parts. vec_len first ≤ vec_len parts) }
+        ensures places { IfOk result (λ parts. ArePartsInSource parts.items) }
     {
         let mut parts = first;
         while let Some(word) = self.word() {
@@ -159,7 +166,9 @@ impl<'a> Fields<'a> {
     }
 
     // A template's substitutions, each with the raw part that follows it.
-    pub(crate) fn substitutions(&mut self) -> Result<Vec<Part>, Fault> {
+    pub(crate) fn substitutions(&mut self) -> Result<Vec<Part>, Fault>
+        ensures { IfOk result (λ parts. ArePartsInSource parts.items) }
+    {
         let mut parts = Vec::new(self.heap);
         while let Some(word) = self.word() {
             let node = node(word)?;

@@ -2,6 +2,7 @@
 ghost use Rattle.std.specs.Prelude.{◌≡◌, IfOk, codes};
 ghost use Rattle.script.specs.Calls.{Says};
 ghost use Rattle.script.specs.Lines.{Reads};
+ghost use Rattle.script.specs.Places.{IsValueInSource, IsClassInSource};
 
 use crate::builds::build_call;
 use crate::calls::{Call, WriterName};
@@ -30,7 +31,9 @@ fn open_call(fields: &mut Fields<'_>) -> Result<Call, Fault>
     })
 }
 
-fn constant(fields: &mut Fields<'_>) -> Result<Value, Expected> {
+fn constant(fields: &mut Fields<'_>) -> Result<Value, Expected>
+    ensures { IfOk result IsValueInSource }
+{
     match fields.word() {
         Some("number") => Ok(Value::Number(fields.number()?)),
         Some("string") => Ok(Value::String(fields.place()?)),
@@ -41,7 +44,9 @@ fn constant(fields: &mut Fields<'_>) -> Result<Value, Expected> {
     }
 }
 
-fn class(fields: &mut Fields<'_>) -> Result<Class, Expected> {
+fn class(fields: &mut Fields<'_>) -> Result<Class, Expected>
+    ensures { IfOk result IsClassInSource }
+{
     match fields.word() {
         Some("free") => return Ok(Class::Free),
         Some("bound") => return Ok(Class::Bound),
