@@ -1,19 +1,35 @@
 -- Words between spaces.
-use Rattle.std.proofs.Common.{◌≡◌, ℕ, suc, ◌<◌, ◌≤◌, Bool, true, false, cond, eqb, List, [], ◌∷◌, ◌++◌, length, get_or, Some, None, Decides, sym, refl, ap, ◌∙◌, arith}
+use Rattle.std.proofs.Common.{◌≡◌, ℕ, suc, ◌<◌, ◌≤◌, Bool, true, false, cond, eqb, List, [], ◌∷◌, ◌++◌, length, get_or, drop, Some, None, Decides, sym, refl, ap, ◌∙◌, arith}
+use lib.Utf8.{encode}
 use Rattle.std.proofs.lemmas.Bool.{true≢false, cond-false, ne_eqb}
 use Rattle.std.proofs.lemmas.Bool.Decides.{same_from_decides, Decides-eqb}
+use Rattle.std.specs.Str.Pattern.{FindsCharPrefix, CutsPrefixes, IsFullyTrimmed, IsTrimStartMatches}
+use Rattle.std.proofs.lemmas.Str.Pattern.{drop_at_char}
+use Rattle.std.proofs.lemmas.Str.{len_utf8_ascii}
 use Rattle.script.specs.Words.{unspaced, to_space, past_space, over, blank, first_word, after_first}
 
 pub over_from_starts : (s : List ℕ) (r : Bool) → eqb (length s) 0 ≡ false → Decides r (get_or s 0 0 ≡ 35) → r ≡ over s
 over_from_starts [] r e d = absurd (true≢false e)
 over_from_starts (c ∷ cs) r e d = same_from_decides r (eqb c 35) d (Decides-eqb c 35)
 
-pub unspaced_at : (s t : List ℕ) → s ≡ 32 ∷ t → unspaced s ≡ unspaced t
-unspaced_at s t e = ap unspaced e
-
-pub unspaced_same : (s : List ℕ) → ((t : List ℕ) → s ≡ 32 ∷ t → ⊥) → unspaced s ≡ s
+unspaced_same : (s : List ℕ) → ((t : List ℕ) → s ≡ 32 ∷ t → ⊥) → unspaced s ≡ s
 unspaced_same [] h = refl
 unspaced_same (c ∷ cs) h = cond-false (eqb c 32) (unspaced cs) (c ∷ cs) (ne_eqb c 32 (λ e. h cs (ap (λ d. d ∷ cs) e)))
+
+-- cutting spaces off the front
+unspaced_cut : (ns s r : List ℕ) → CutsPrefixes (FindsCharPrefix 32) s ns r → unspaced r ≡ unspaced s
+unspaced_cut [] s r e = ap unspaced e
+unspaced_cut (n ∷ ns) s r h =
+    let space : drop 0 h.0 ≡ 32 ∷ drop n h.0 = drop_at_char 32 h.0 0 n h.2 (omega arith) in
+    ap unspaced h.3 ∙ sym (ap unspaced space) ∙ unspaced_cut ns s h.0 h.1
+
+unspaced_trimmed : (r : List ℕ) → IsFullyTrimmed (FindsCharPrefix 32) r → unspaced r ≡ r
+unfolding encode
+unspaced_trimmed r (None, none, _) = unspaced_same r none
+unspaced_trimmed r (Some n, space, empty) = absurd (omega (arith, space.ends, len_utf8_ascii 32, empty))
+
+pub unspaced_trim : (s r : List ℕ) → IsTrimStartMatches (FindsCharPrefix 32) s r → r ≡ unspaced s
+unspaced_trim s r h = sym (unspaced_trimmed r h.1) ∙ unspaced_cut h.0.0 s r h.0.1
 
 -- no space among them
 abbrev pub Solid : List ℕ → Type 0
@@ -52,6 +68,9 @@ unspaced-length (c ∷ cs) = by_space (eqb c 32) c (unspaced cs) cs (unspaced-le
 pub over_some : (t : List ℕ) → over t ≡ false → 0 < length t
 over_some [] e = absurd (true≢false e)
 over_some (c ∷ cs) e = omega arith
+
+pub none_at : (s t : List ℕ) → t ≡ unspaced s → over t ≡ true → (None ≡ first_word s) × (s ≡ after_first s)
+none_at s t e o = let b : blank s ≡ true = sym (ap over e) ∙ o in (cc, cc)
 
 pub word_at : (s t w u : List ℕ) → t ≡ unspaced s → over t ≡ false → to_space t ≡ w → past_space t ≡ u → (Some w ≡ first_word s) × (u ≡ after_first s)
 word_at s t w u e o ew eu =

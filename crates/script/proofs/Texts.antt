@@ -1,8 +1,14 @@
 -- Texts read character by character.
-use Rattle.std.proofs.Common.{◌≡◌, ℕ, ◌<◌, ◌≤◌, ◌≢◌, List, [], ◌∷◌, ◌++◌, length, IfSome, Some, None, Option, sym, ap, ◌∙◌, subst, append_assoc, append-nil, arith, length-append}
+use Rattle.std.proofs.Common.{◌≡◌, ℕ, ◌<◌, ◌≤◌, ◌≢◌, List, [], ◌∷◌, ◌++◌, length, IfSome, IfOk, Some, None, Option, Ok, Err, Result, ◌⊎◌, inl, inr, Vec, vec_items, refl, sym, ap, ◌∙◌, subst, append_assoc, append-nil, arith, length-append}
 use lib.Utf8.{encode}
 use Rattle.std.proofs.lemmas.Str.{length-encode, len_utf8_bounds}
-use Rattle.script.specs.Units.{utf16, Begins, Spelt, Hex, HexUnit, short_escape, Escape, Json}
+use Rattle.std.specs.Char.Escape.{encode_utf16}
+use Rattle.std.specs.Iterator.{Yields}
+use Rattle.std.specs.Str.Iter.{encode_utf16_rest, encode_utf16_pending, encode_utf16_steps}
+use Rattle.std.specs.declared.str.EncodeUtf16.{EncodeUtf16}
+use Rattle.std.proofs.lemmas.Iterator.{IsCollectResult}
+use Rattle.std.proofs.lemmas.List.{nil_from_length}
+use Rattle.script.specs.Units.{Begins, Spelt, Hex, HexUnit, short_escape, Escape, Json}
 
 pub weaker : {X : Type 0} {P Q : X → Type 0} (r : Option X) → IfSome r P → ((x : X) → P x → Q x) → IfSome r Q
 weaker None h f = tt
@@ -33,9 +39,9 @@ Quoted whole rest front = (us t : List ℕ) → Json rest us t → Json whole (f
 pub quoted_none : (s ys : List ℕ) → ys ≡ [] → Quoted s s ys
 quoted_none s ys e us t j = subst (λ zs. Json s (zs ++ us) t) (sym e) j
 
-pub quoted_plain : (w s xs : List ℕ) (c : ℕ) (m ys : List ℕ) → Quoted w s xs → Begins s c m → 32 ≤ c → c ≢ 34 → c ≢ 92 → ys ≡ xs ++ utf16 c → Quoted w m ys
+pub quoted_plain : (w s xs : List ℕ) (c : ℕ) (m ys : List ℕ) → Quoted w s xs → Begins s c m → 32 ≤ c → c ≢ 34 → c ≢ 92 → ys ≡ xs ++ encode_utf16 c → Quoted w m ys
 quoted_plain w s xs c m ys h b low nq nb e us t j =
-    subst (λ zs. Json w zs t) (sym (ap (λ zs. zs ++ us) e ∙ append_assoc xs (utf16 c) us)) (h (utf16 c ++ us) t (Json.plain c s m us t b low nq nb j))
+    subst (λ zs. Json w zs t) (sym (ap (λ zs. zs ++ us) e ∙ append_assoc xs (encode_utf16 c) us)) (h (encode_utf16 c ++ us) t (Json.plain c s m us t b low nq nb j))
 
 pub quoted_escaped : (w s xs : List ℕ) (c u : ℕ) (m n ys : List ℕ) → Quoted w s xs → Begins s c m → c ≡ 92 → Escape m u n → ys ≡ xs ++ (u ∷ []) → Quoted w n ys
 quoted_escaped w s xs c u m n ys h b k x e us t j =
@@ -44,19 +50,38 @@ quoted_escaped w s xs c u m n ys h b k x e us t j =
 pub quoted_close : (w s xs : List ℕ) (c : ℕ) (t : List ℕ) → Quoted w s xs → Begins s c t → c ≡ 34 → Json w xs t
 quoted_close w s xs c t h b k = subst (λ zs. Json w zs t) (append-nil xs) (h [] t (Json.close s t (subst (λ d. Begins s d t) k b)))
 
-abbrev pub Bare : List ℕ → List ℕ → List ℕ → Type 0
-Bare whole rest front = (us : List ℕ) → Spelt rest us → Spelt whole (front ++ us)
+-- The units that the library gives of a text spell it.
+ended : (s : EncodeUtf16) → length (encode_utf16_rest s) ≡ 0 → Spelt (encode_utf16_rest s) []
+ended s e = subst (λ text. Spelt text []) (sym (nil_from_length _ e)) Spelt.end
 
-pub bare_none : (w s ys : List ℕ) → s ≡ w → ys ≡ [] → Bare w s ys
-bare_none w s ys k e us j = subst (λ zs. Spelt w (zs ++ us)) (sym e) (subst (λ zs. Spelt zs us) k j)
+one_unit :
+    (s j : EncodeUtf16) (x : ℕ) (xs us : List ℕ) →
+    encode_utf16_steps s (Some x) j →
+    Spelt (encode_utf16_rest j) us →
+    xs ≡ encode_utf16_pending j ++ us →
+    (vs : List ℕ) × Spelt (encode_utf16_rest s) vs × (x ∷ xs ≡ encode_utf16_pending s ++ vs)
+one_unit s j x xs us (inl (unit, none, same)) spelt e = (us, subst (λ text. Spelt text us) same spelt, rw (unit, e, none) refl)
+one_unit s j x xs us (inr (none, (c, begins, units))) spelt e = (encode_utf16 c ++ us, Spelt.char c _ _ us begins spelt, rw (none, units, e) refl)
 
-pub bare_char : (w s xs : List ℕ) (c : ℕ) (m ys : List ℕ) → Bare w s xs → Begins s c m → ys ≡ xs ++ utf16 c → Bare w m ys
-bare_char w s xs c m ys h b e us j =
-    subst (λ zs. Spelt w zs) (sym (ap (λ zs. zs ++ us) e ∙ append_assoc xs (utf16 c) us)) (h (utf16 c ++ us) (Spelt.char c s m us b j))
+all_units :
+    (xs : List ℕ) (s t u : EncodeUtf16) →
+    Yields encode_utf16_steps s xs t →
+    encode_utf16_steps t None u →
+    (us : List ℕ) × Spelt (encode_utf16_rest s) us × (xs ≡ encode_utf16_pending s ++ us)
+all_units [] s t u same last = ([], ended s (ap (λ r. length (encode_utf16_rest r)) same ∙ last.1), cc)
+all_units (x ∷ xs) s t u (j, step, more) last =
+    let rest = all_units xs j t u more last in
+    one_unit s j x xs rest.0 step rest.1 rest.2
 
-at_end : (w s xs : List ℕ) → Bare w s xs → length s ≡ 0 → Spelt w (xs ++ [])
-at_end w [] xs h e = h [] Spelt.end
-at_end w (c ∷ cs) xs h e = absurd (omega arith)
-
-pub bare_end : (w s xs : List ℕ) → Bare w s xs → length s ≡ 0 → Spelt w xs
-bare_end w s xs h e = subst (λ zs. Spelt w zs) (append-nil xs) (at_end w s xs h e)
+pub spelt_units :
+    {Z E : Type 0} (r : Result (Vec ℕ Z) E) (s : EncodeUtf16) (text : List ℕ) →
+    encode_utf16_rest s ≡ text →
+    encode_utf16_pending s ≡ [] →
+    IsCollectResult encode_utf16_steps s r →
+    IfOk r (λ v. Spelt text (vec_items v))
+spelt_units (Err e) s text rest none ran = tt
+spelt_units (Ok v) s text rest none (xs, (t, gave, last), (items, _)) =
+    let end = last tt in
+    let told = all_units xs s t end.0 gave end.1 in
+    let units : told.0 ≡ vec_items v = cc in
+    subst (λ us. Spelt text us) units (subst (λ bytes. Spelt bytes told.0) rest told.1)

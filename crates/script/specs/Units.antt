@@ -1,11 +1,8 @@
--- Texts as 16-bit units.
+-- Texts as 16-bit units. `encode_utf16` of the library is UTF16EncodeCodePoint of ECMA-262, 11.1.1.
 use Rattle.std.specs.Prelude.{◌≡◌, ℕ, ◌+◌, ◌-◌, ◌*◌, ◌/◌, ◌%◌, ◌<◌, ◌≤◌, cond, ◌≢◌, List, [], ◌∷◌, ◌++◌, Some, None, Option, ◌==◌, nat_lt}
 use Rattle.std.proofs.Math.Utf8.{encode}
 use Rattle.std.specs.Char.{digit_value}
-
--- ECMA-262, 11.1.1, UTF16EncodeCodePoint
-abbrev pub utf16 : ℕ → List ℕ
-utf16 c = cond (nat_lt c 65536) (c ∷ []) ((55296 + (c - 65536) / 1024) ∷ (56320 + (c - 65536) % 1024) ∷ [])
+use Rattle.std.specs.Char.Escape.{encode_utf16}
 
 -- The UTF-8 text s is the character c, and then t.
 abbrev pub Begins : List ℕ → ℕ → List ℕ → Type 0
@@ -14,7 +11,7 @@ Begins s c t = s ≡ encode c ++ t
 -- A text as its units.
 pub data Spelt : List ℕ → List ℕ → Type 0 where
   end : Spelt [] []
-  char : (c : ℕ) (s m us : List ℕ) → Begins s c m → Spelt m us → Spelt s (utf16 c ++ us)
+  char : (c : ℕ) (s m us : List ℕ) → Begins s c m → Spelt m us → Spelt s (encode_utf16 c ++ us)
 
 -- A hexadecimal digit of the value d, and then t.
 pub record Hex (s : List ℕ) (d : ℕ) (t : List ℕ) : Type 0 where
@@ -58,5 +55,5 @@ pub data Escape : List ℕ → ℕ → List ℕ → Type 0 where
 -- After the opening quote, s is a JSON string of these units with its closing quote, and then t.
 pub data Json : List ℕ → List ℕ → List ℕ → Type 0 where
   close : (s t : List ℕ) → Begins s 34 t → Json s [] t
-  plain : (c : ℕ) (s m us t : List ℕ) → Begins s c m → 32 ≤ c → c ≢ 34 → c ≢ 92 → Json m us t → Json s (utf16 c ++ us) t
+  plain : (c : ℕ) (s m us t : List ℕ) → Begins s c m → 32 ≤ c → c ≢ 34 → c ≢ 92 → Json m us t → Json s (encode_utf16 c ++ us) t
   escaped : (u : ℕ) (s m n us t : List ℕ) → Begins s 92 m → Escape m u n → Json n us t → Json s (u ∷ us) t

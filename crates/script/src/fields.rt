@@ -5,7 +5,7 @@ ghost use Rattle.std.specs.Option.{option_map};
 ghost use Rattle.std.specs.Result.{result_ok};
 ghost use Rattle.script.specs.Numbers.{counted_to};
 ghost use Rattle.script.specs.Places.{IsInSource, ArePartsInSource};
-ghost use Rattle.script.specs.Words.{unspaced, over, first_word, after_first};
+ghost use Rattle.script.specs.Words.{over, first_word, after_first};
 
 use crate::expected::Expected;
 use crate::fault::Fault;
@@ -20,16 +20,6 @@ const NO_SPAN: Span = Span {
     start: 0,
     len: 0,
 };
-
-fn unspaced_text(text: &str) -> &str
-    ensures { result.now ≡ unspaced text.now }
-{
-    let mut rest = text;
-    while let Some(after) = rest.strip_prefix(' ') {
-        rest = after;
-    }
-    rest
-}
 
 fn is_over(text: &str) -> bool
     ensures { result ≡ over text.now }
@@ -67,7 +57,7 @@ impl<'a> Fields<'a> {
         ensures after { self.new.rest.now ≡ after_first self.old.rest.now }
         ensures shorter { OnSome result (length self.new.rest.now < length self.old.rest.now) }
     {
-        let text = unspaced_text(self.rest);
+        let text = self.rest.trim_start_matches(' ');
         if is_over(text) {
             return None;
         }
@@ -180,7 +170,7 @@ impl<'a> Fields<'a> {
 
     // A JSON string, if one is next.
     pub(crate) fn string(&mut self) -> Result<Option<Vec<u16>>, Fault> {
-        let text = unspaced_text(self.rest);
+        let text = self.rest.trim_start_matches(' ');
         let Some(inside) = text.strip_prefix('"') else {
             return Ok(None);
         };
@@ -199,9 +189,7 @@ impl<'a> Fields<'a> {
         if let Some(units) = self.string()? {
             return Ok(units);
         }
-        match self.word() {
-            Some(word) => bare(self.heap, word),
-            None => Err(Fault::Malformed(Expected::NameText)),
-        }
+        let word = self.field(Expected::NameText)?;
+        Ok(bare(self.heap, word)?)
     }
 }

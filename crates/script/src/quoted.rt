@@ -1,36 +1,26 @@
 // Texts as 16-bit units: bare words, and JSON strings.
-ghost use Rattle.std.specs.Prelude.{◌≡◌, true, ◌++◌, IfSome, is_ok, IfOk};
+ghost use Rattle.std.specs.Prelude.{◌≡◌, ◌++◌, IfSome, IfOk, OnOk};
+ghost use Rattle.std.specs.Char.Escape.{encode_utf16};
 ghost use Rattle.std.specs.Str.Iter.{chars_rest};
-ghost use Rattle.script.specs.Units.{utf16, Spelt, Hex, HexUnit, short_escape, Escape, Json};
+ghost use Rattle.script.specs.Units.{Spelt, Hex, HexUnit, short_escape, Escape, Json};
 
 use crate::expected::Expected;
 use crate::fault::Fault;
-use std::alloc::Global;
+use std::alloc::{AllocError, Global};
 use std::str::Chars;
 
 // Adds the units of a character.
-fn push_char(units: &mut Vec<u16>, c: char) -> Result<(), Fault>
-    ensures { is_ok result ≡ true → units.new.items ≡ units.old.items ++ utf16 c }
+fn push_char(units: &mut Vec<u16>, c: char) -> Result<(), AllocError>
+    ensures { OnOk result (units.new.items ≡ units.old.items ++ encode_utf16 c) }
 {
-    let code = c as u32;
-    if code < 0x1_0000 {
-        units.push(code as u16)?;
-        return Ok(());
-    }
-    let above = code - 0x1_0000;
-    units.push((0xd800 + above / 0x400) as u16)?;
-    units.push((0xdc00 + above % 0x400) as u16)?;
-    Ok(())
+    let mut buffer = [0; 2];
+    units.extend_from_slice(c.encode_utf16(&mut buffer))
 }
 
-pub(crate) fn bare(heap: Global, word: &str) -> Result<Vec<u16>, Fault>
+pub(crate) fn bare(heap: Global, word: &str) -> Result<Vec<u16>, AllocError>
     ensures { IfOk result (λ v. Spelt word.now v.items) }
 {
-    let mut units = Vec::new(heap);
-    for c in word.chars() {
-        push_char(&mut units, c)?;
-    }
-    Ok(units)
+    word.encode_utf16().collect(heap)
 }
 
 fn hex_digit(chars: &mut Chars<'_>) -> Option<u16>

@@ -28,4 +28,4 @@ loop-c-preserved c =
     let low : 32 ≤ k = omega arith in
     let quote : k ≢ 34 = omega arith in
     let slash : k ≢ 92 = omega arith in
-    quoted_plain (chars_rest c.args.chars.now) (chars_rest c.loop-c.chars) (vec_items c.loop-c.units) k (chars_rest c.next.new.self) (vec_items c.push_char.new.units) c.loop-c.invariant c.in-Some.ensures.steps.0 low quote slash (c.in_ok-push_char-in_default-c.ensures (refl {a = true}))
+    quoted_plain (chars_rest c.args.chars.now) (chars_rest c.loop-c.chars) (vec_items c.loop-c.units) k (chars_rest c.next.new.self) (vec_items c.push_char.new.units) c.loop-c.invariant c.in-Some.ensures.steps.0 low quote slash c.in_ok-push_char-in_default-c.ensures
