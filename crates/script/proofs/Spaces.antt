@@ -1,12 +1,16 @@
 -- Words between spaces.
-use Rattle.std.proofs.Common.{◌≡◌, ℕ, suc, ◌<◌, ◌≤◌, Bool, true, false, cond, eqb, List, [], ◌∷◌, ◌++◌, length, get_or, drop, Some, None, Decides, sym, refl, ap, ◌∙◌, arith}
+use Rattle.std.proofs.Common.{◌≡◌, ℕ, suc, ◌<◌, ◌≤◌, Bool, true, false, cond, eqb, List, [], ◌∷◌, length, get_or, drop, Some, None, Decides, sym, refl, ap, ◌∙◌, arith}
 use lib.Utf8.{encode}
 use Rattle.std.proofs.lemmas.Bool.{true≢false, cond-false, ne_eqb}
 use Rattle.std.proofs.lemmas.Bool.Decides.{same_from_decides, Decides-eqb}
 use Rattle.std.specs.Str.Pattern.{FindsCharPrefix, CutsPrefixes, IsFullyTrimmed, IsTrimStartMatches}
 use Rattle.std.proofs.lemmas.Str.Pattern.{drop_at_char}
 use Rattle.std.proofs.lemmas.Str.{len_utf8_ascii}
-use Rattle.script.specs.Words.{unspaced, to_space, past_space, over, blank, first_word, after_first}
+use Rattle.std.specs.List.{before_first, position_or_len}
+use Rattle.std.specs.List as Lists
+use Rattle.std.proofs.Math.ListN.{take, drop_of_length-le}
+use Rattle.std.proofs.Math.Seq.{take-length}
+use Rattle.script.specs.Words.{unspaced, is_space, over, blank, first_word, after_first}
 
 pub over_from_starts : (s : List ℕ) (r : Bool) → eqb (length s) 0 ≡ false → Decides r (get_or s 0 0 ≡ 35) → r ≡ over s
 over_from_starts [] r e d = absurd (true≢false e)
@@ -31,32 +35,6 @@ unspaced_trimmed r (Some n, space, empty) = absurd (omega (arith, space.ends, le
 pub unspaced_trim : (s r : List ℕ) → IsTrimStartMatches (FindsCharPrefix 32) s r → r ≡ unspaced s
 unspaced_trim s r h = sym (unspaced_trimmed r h.1) ∙ unspaced_cut h.0.0 s r h.0.1
 
--- no space among them
-abbrev pub Solid : List ℕ → Type 0
-Solid xs = (i : ℕ) → i < length xs → get_or xs i 0 ≡ 32 → ⊥
-
-solid_head : (c : ℕ) (cs : List ℕ) → Solid (c ∷ cs) → eqb c 32 ≡ false
-solid_head c cs h = ne_eqb c 32 (h 0 (omega arith))
-
-solid_tail : (c : ℕ) (cs : List ℕ) → Solid (c ∷ cs) → Solid cs
-solid_tail c cs h i l e = h (suc i) (omega arith) e
-
-pub to_space_lem : (xs ys : List ℕ) → Solid xs → to_space (xs ++ 32 ∷ ys) ≡ xs
-to_space_lem [] ys h = refl
-to_space_lem (c ∷ cs) ys h = cond-false (eqb c 32) _ _ (solid_head c cs h) ∙ ap (λ zs. c ∷ zs) (to_space_lem cs ys (solid_tail c cs h))
-
-pub past_space_lem : (xs ys : List ℕ) → Solid xs → past_space (xs ++ 32 ∷ ys) ≡ ys
-past_space_lem [] ys h = refl
-past_space_lem (c ∷ cs) ys h = cond-false (eqb c 32) _ _ (solid_head c cs h) ∙ past_space_lem cs ys (solid_tail c cs h)
-
-pub to_end : (xs : List ℕ) → Solid xs → to_space xs ≡ xs
-to_end [] h = refl
-to_end (c ∷ cs) h = cond-false (eqb c 32) _ _ (solid_head c cs h) ∙ ap (λ zs. c ∷ zs) (to_end cs (solid_tail c cs h))
-
-pub past_end : (xs : List ℕ) → Solid xs → past_space xs ≡ []
-past_end [] h = refl
-past_end (c ∷ cs) h = cond-false (eqb c 32) _ _ (solid_head c cs h) ∙ past_end cs (solid_tail c cs h)
-
 by_space : (b : Bool) (c : ℕ) (t cs : List ℕ) → length t ≤ length cs → length (cond b t (c ∷ cs)) ≤ suc (length cs)
 by_space true c t cs h = omega arith
 by_space false c t cs h = omega arith
@@ -72,9 +50,16 @@ over_some (c ∷ cs) e = omega arith
 pub none_at : (s t : List ℕ) → t ≡ unspaced s → over t ≡ true → (None ≡ first_word s) × (s ≡ after_first s)
 none_at s t e o = let b : blank s ≡ true = sym (ap over e) ∙ o in (cc, cc)
 
-pub word_at : (s t w u : List ℕ) → t ≡ unspaced s → over t ≡ false → to_space t ≡ w → past_space t ≡ u → (Some w ≡ first_word s) × (u ≡ after_first s)
+pub word_at : (s t w u : List ℕ) → t ≡ unspaced s → over t ≡ false → w ≡ before_first is_space t → u ≡ Lists.after_first is_space t → (Some w ≡ first_word s) × (u ≡ after_first s)
 word_at s t w u e o ew eu =
     let b : blank s ≡ false = sym (ap over e) ∙ o in (
-      sym (cond-false (blank s) None (Some (to_space (unspaced s))) b ∙ sym (ap (λ z. Some (to_space z)) e) ∙ ap (λ z. Some z) ew),
-      sym (cond-false (blank s) s (past_space (unspaced s)) b ∙ sym (ap past_space e) ∙ eu),
+      ap (λ z. Some z) ew ∙ ap (λ z. Some (before_first is_space z)) e ∙ sym (cond-false (blank s) None _ b),
+      eu ∙ ap (λ z. Lists.after_first is_space z) e ∙ sym (cond-false (blank s) s _ b),
     )
+
+-- no space is left in the last word
+pub all_word : (t : List ℕ) → position_or_len is_space t ≡ length t → t ≡ before_first is_space t
+all_word t e = sym (ap (λ n. take n t) e ∙ take-length t)
+
+pub none_after : (t : List ℕ) → position_or_len is_space t ≡ length t → [] ≡ Lists.after_first is_space t
+none_after t e = sym (drop_of_length-le t (omega (arith, e)))

@@ -90,13 +90,11 @@ pub(crate) fn build_call(fields: &mut Fields<'_>) -> Result<Call, Fault>
     }
     match name {
         "unary" => {
-            let word = fields.field(Expected::UnaryOperator)?;
-            let operator = word.parse().or(Err(Expected::UnaryOperator))?;
+            let operator = fields.operator(Expected::UnaryOperator)?;
             with_operands(fields, Shape::Unary(operator), 1)
         }
         "binary" => {
-            let word = fields.field(Expected::BinaryOperator)?;
-            let operator = word.parse().or(Err(Expected::BinaryOperator))?;
+            let operator = fields.operator(Expected::BinaryOperator)?;
             with_operands(fields, Shape::Binary(operator), 2)
         }
         "chain" => with_operands(fields, Shape::Chain, 1),

@@ -31,7 +31,7 @@ impl From<Expected> for Fault {
     ghost from_gives = { λ expected fault. fault ≡ Malformed expected };
 
     fn from(expected: Expected) -> Fault {
-        Fault::Malformed(expected)
+        Self::Malformed(expected)
     }
 }
 
@@ -39,7 +39,7 @@ impl From<AllocError> for Fault {
     ghost from_gives = { λ _ fault. fault ≡ NoMemory };
 
     fn from(_refused: AllocError) -> Fault {
-        Fault::NoMemory
+        Self::NoMemory
     }
 }
 
@@ -47,6 +47,6 @@ impl<T: Drop> From<AllocFailed<T>> for Fault {
     ghost from_gives = { λ _ fault. fault ≡ NoMemory };
 
     fn from(_refused: AllocFailed<T>) -> Fault {
-        Fault::NoMemory
+        Fault::from(AllocError)
     }
 }

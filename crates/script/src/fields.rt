@@ -1,6 +1,6 @@
 // The fields of a line, from left to right. Spaces separate them, and a `#` where one could begin
 // makes the rest of the line a comment.
-ghost use Rattle.std.specs.Prelude.{◌≡◌, ◌-◌, ◌^◌, ◌<◌, ◌≤◌, length, vec_len, OnSome, IfOk};
+ghost use Rattle.std.specs.Prelude.{◌≡◌, ◌-◌, ◌^◌, ◌<◌, ◌≤◌, length, vec_len, OnSome, IfSome, IfOk, Ok};
 ghost use Rattle.std.specs.Option.{option_map};
 ghost use Rattle.std.specs.Result.{result_ok};
 ghost use Rattle.script.specs.Numbers.{counted_to};
@@ -13,13 +13,8 @@ use crate::numbers::{decimal, extent, integer, node};
 use crate::quoted::{bare, quoted};
 use nodes::shape::Part;
 use std::alloc::Global;
+use std::str::FromStr;
 use units::span::{Span, Text};
-
-const NO_SPAN: Span = Span {
-    text: Text::Source,
-    start: 0,
-    len: 0,
-};
 
 fn is_over(text: &str) -> bool
     ensures { result ≡ over text.now }
@@ -27,14 +22,23 @@ fn is_over(text: &str) -> bool
     text.is_empty() || text.starts_with('#')
 }
 
+// A part of the source text.
+fn source_part(start: u32, len: u32) -> Span
+    ensures { IsInSource result }
+{
+    Span {
+        text: Text::Source,
+        start,
+        len,
+    }
+}
+
 // An operand, which no raw part follows.
 fn operand(node: u16) -> Part
     ensures { IsInSource result.after }
 {
-    Part {
-        node,
-        after: NO_SPAN,
-    }
+    let after = source_part(0, 0);
+    Part { node, after }
 }
 
 // What is left of a line, and where texts and lists that are read of it are kept.
@@ -94,22 +98,25 @@ impl<'a> Fields<'a> {
         node(self.field(Expected::Node)?)
     }
 
+    pub(crate) fn operator<O: FromStr + Drop>(&mut self, expected: Expected) -> Result<O, Expected>
+    where
+        O::Err: Drop,
+        ensures { IfOk result (λ operator. IfSome (first_word self.old.rest.now) (λ word. O.from_str_gives word (Ok operator))) }
+    {
+        self.field(expected)?.parse().or(Err(expected))
+    }
+
     pub(crate) fn number(&mut self) -> Result<f64, Expected> {
         decimal(self.field(Expected::Number)?)
     }
 
-    // A part of the source text.
     pub(crate) fn place(&mut self) -> Result<Span, Expected>
         ensures text { IfOk result IsInSource }
         ensures shorter { length self.new.rest.now ≤ length self.old.rest.now }
     {
         let start = extent(self.field(Expected::Extent)?)?;
         let len = extent(self.field(Expected::Extent)?)?;
-        Ok(Span {
-            text: Text::Source,
-            start,
-            len,
-        })
+        Ok(source_part(start, len))
     }
 
     pub(crate) fn boolean(&mut self) -> Result<bool, Expected> {

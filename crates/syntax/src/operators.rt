@@ -1,4 +1,4 @@
-ghost use Rattle.std.specs.Prelude.{◌≡◌, IfSome};
+ghost use Rattle.std.specs.Prelude.{◌≡◌, IfSome, Some, codes};
 ghost use Rattle.syntax.specs.Operators.{unary_of, binary_of, un_text, bin_text};
 ghost use Rattle.syntax.specs.Written.{UnaryWord, BinaryWord, Reads};
 
@@ -50,6 +50,8 @@ pub enum BinaryOperator {
 pub struct NoOperator;
 
 impl fmt::Display for NoOperator {
+    ghost output = { λ _. Some (codes "no operator") };
+
     fn fmt<W: fmt::Write>(&self, f: &mut fmt::Formatter<W>) -> fmt::Result {
         f.write_str("no operator")
     }

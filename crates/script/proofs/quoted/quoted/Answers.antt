@@ -1,4 +1,4 @@
-use Rattle.std.proofs.Common.{◌≤◌, true, ◌≢◌, vec_items, refl, arith}
+use Rattle.std.proofs.Common.{◌≤◌, ◌≢◌, vec_items, arith}
 use Rattle.std.specs.Str.Iter.{chars_rest}
 use Rattle.std.proofs.lemmas.Option.{MatchOption-at_some}
 use Rattle.script.specs.Units.{Escape}
