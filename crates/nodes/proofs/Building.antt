@@ -1,6 +1,8 @@
 -- A new node over free parts.
 use Rattle.std.proofs.Common.{◌≡◌, ℕ, ◌+◌, ◌<◌, true, false, cond, not, ◌&&◌, ltb, ◌≢◌, ◌⊎◌, List, [], ◌∷◌, length, set, is_some, Some, None, Option, sym, refl, ap, ◌∙◌, subst, inl, inr, ⊎_elim, arith, length-set, get_or-set_other, get_or-set_same}
 use Rattle.std.proofs.lemmas.Bool.{cases_eq, and_parts, and_from, lt-ltb, ltb-true, both_ways, cases_Bool}
+use Rattle.std.specs.List.{All}
+use Rattle.std.proofs.lemmas.List.Elements.{All-head, All-tail}
 use Rattle.units.specs.declared.span.Span.{Span}
 use Rattle.nodes.specs.declared.kind.Kind.{Kind}
 use Rattle.nodes.specs.declared.kind.Entry.{Entry}
@@ -57,18 +59,14 @@ linked-parent (p ∷ ps) n es low x i =
     (cases_eq x p.node)
 
 -- a fact of each part's text and of an entry's stays one
-abbrev pub Afters : (Span → Type 0) → List Part → Type 0
-Afters P [] = Unit {0}
-Afters P (p ∷ ps) = P p.after × Afters P ps
-
-linked-after : (P : Span → Type 0) (ps : List Part) (n : ℕ) (es : List Entry) → ((x : ℕ) → In x (nodes ps) → x < length es) → Afters P ps → (x : ℕ) → P (at es x).after → P (at (linked ps n es) x).after
+linked-after : (P : Span → Type 0) (ps : List Part) (n : ℕ) (es : List Entry) → ((x : ℕ) → In x (nodes ps) → x < length es) → All (λ p. P p.after) ps → (x : ℕ) → P (at es x).after → P (at (linked ps n es) x).after
 linked-after P [] n es low a x p = p
 linked-after P (q ∷ ps) n es low a x p =
     ⊎_elim
     (λ (e : x ≡ q.node).
     let lt : q.node < length (linked ps n es) = rw (length-linked ps n es) (low q.node (inl refl)) in
-    rw (e, get_or-set_same (linked ps n es) q.node (tied (at (linked ps n es) q.node) n (first_of ps) q.after) blank lt) a.0)
-    (λ (ne : x ≢ q.node). rw (get_or-set_other (linked ps n es) q.node x (tied (at (linked ps n es) q.node) n (first_of ps) q.after) blank ne) (linked-after P ps n es (λ y i. low y (inr i)) a.1 x p))
+    rw (e, get_or-set_same (linked ps n es) q.node (tied (at (linked ps n es) q.node) n (first_of ps) q.after) blank lt) (All-head (λ p. P p.after) q ps a))
+    (λ (ne : x ≢ q.node). rw (get_or-set_other (linked ps n es) q.node x (tied (at (linked ps n es) q.node) n (first_of ps) q.after) blank ne) (linked-after P ps n es (λ y i. low y (inr i)) (All-tail (λ p. P p.after) q ps a) x p))
     (cases_eq x q.node)
 
 -- the row that linking makes
@@ -134,7 +132,7 @@ module _ (es : List Entry) (used : ℕ) (k : Kind) (h : ℕ) (ps : List Part) (s
   pub old_height : (x : ℕ) → x < used → (at fs x).height ≡ (at es x).height
   old_height x lt = (kept x lt).height
 
-  pub old_after : (P : Span → Type 0) → Afters P ps → (x : ℕ) → x < used → P (at es x).after → P (at fs x).after
+  pub old_after : (P : Span → Type 0) → All (λ p. P p.after) ps → (x : ℕ) → x < used → P (at es x).after → P (at fs x).after
   old_after P a x lt p = subst (λ (y : Entry). P y.after) (sym (old_at x lt)) (linked-after P ps used es low a x p)
 
   pub old_parents : (x : ℕ) → x < used → (at fs x).parent ≡ cond (has x (nodes ps)) (Some used) (at es x).parent

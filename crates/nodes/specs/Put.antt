@@ -1,5 +1,5 @@
 -- How a new node is written into the entries.
-use Rattle.std.specs.Prelude.{ℕ, max, List, [], ◌∷◌, length, drop, Some, None, slice_index_or, slice_set}
+use Rattle.std.specs.Prelude.{ℕ, ◌<◌, max, All, List, [], ◌∷◌, length, drop, Some, None, slice_index_or, slice_set}
 use Rattle.units.specs.declared.span.Span.{Span}
 use Rattle.nodes.specs.declared.kind.Row.{Row}
 use Rattle.nodes.specs.declared.kind.Kind.{Kind}
@@ -16,6 +16,10 @@ no_part = record { node = 0; after = no_span }
 -- the number of the part at i, or 0
 abbrev pub node_at : List Part → ℕ → ℕ
 node_at ps i = (slice_index_or ps i no_part).node
+
+-- the parts name entries below n
+abbrev pub AllBelow : ℕ → List Part → Type 0
+AllBelow n ps = All (λ p. p.node < n) ps
 
 abbrev pub first_of : List Part → ℕ
 first_of [] = 0

@@ -1,7 +1,7 @@
-ghost use Rattle.std.specs.Prelude.{◌≡◌, ℕ, ◌<◌, ◌≤◌, true, false, length, drop};
-ghost use Rattle.nodes.specs.Made.{nodes, free as Free, loose as Loose};
+ghost use Rattle.std.specs.Prelude.{◌≡◌, ◌≤◌, length};
+ghost use Rattle.nodes.specs.Made.{nodes, loose, free};
 ghost use Rattle.nodes.specs.Meaning.{has};
-ghost use Rattle.nodes.specs.Put.{node_at, tallest as Tallest};
+ghost use Rattle.nodes.specs.Put.{AllBelow, tallest};
 
 use crate::kind::Entry;
 use crate::shape::Part;
@@ -9,49 +9,40 @@ use crate::shape::Part;
 // Whether n is in use and no part of another node.
 pub fn is_loose(entries: &[Entry], used: usize, n: u16) -> bool
     requires { used ≤ length entries.now }
-    ensures { result ≡ Loose entries.now used n }
+    ensures { result ≡ loose entries.now used n }
 {
-    let i = n as usize;
-    if i >= used {
-        return false;
-    }
-    entries[i].parent.is_none()
+    let n = n as usize;
+    n < used && entries[n].parent.is_none()
 }
 
-// Whether n is the node of a part from `from` on.
-fn is_among(parts: &[Part], from: usize, n: u16) -> bool
-    ensures { result ≡ has n (nodes (drop from parts.now)) }
+// Whether n is the node of a part.
+fn is_among(parts: &[Part], n: u16) -> bool
+    ensures { result ≡ has n (nodes parts.now) }
 {
-    for i in from..parts.len() {
-        if n == parts[i].node {
-            return true;
-        }
-    }
-    false
+    parts.iter().any(|part| n == part.node)
 }
 
 // Whether the parts may become those of a new node.
 pub fn are_free(entries: &[Entry], used: usize, parts: &[Part]) -> bool
     requires { used ≤ length entries.now }
-    ensures { result ≡ Free entries.now used parts.now }
+    ensures { result ≡ free entries.now used parts.now }
 {
-    let mut free = true;
-    for i in (0..parts.len()).rev() {
-        let n = parts[i].node;
-        let again = is_among(parts, i + 1, n);
-        free = is_loose(entries, used, n) & (!again & free);
+    for (i, part) in parts.iter().enumerate() {
+        if !is_loose(entries, used, part.node) || is_among(&parts[i + 1..], part.node) {
+            return false;
+        }
     }
-    free
+    true
 }
 
 // The greatest height of the parts.
 pub fn tallest(entries: &[Entry], parts: &[Part]) -> u16
-    requires { (k : ℕ) → k < length parts.now → node_at parts.now k < length entries.now }
-    ensures { result ≡ Tallest entries.now parts.now }
+    requires { AllBelow (length entries.now) parts.now }
+    ensures { result ≡ tallest entries.now parts.now }
 {
-    let mut height = 0;
-    for i in (0..parts.len()).rev() {
-        height = entries[parts[i].node as usize].height.max(height);
-    }
-    height
+    parts
+        .iter()
+        .map(|part| entries[part.node as usize].height)
+        .max()
+        .unwrap_or(0)
 }

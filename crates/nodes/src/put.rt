@@ -1,5 +1,5 @@
-ghost use Rattle.std.specs.Prelude.{◌≡◌, ℕ, ◌<◌, ◌≤◌, length, drop};
-ghost use Rattle.nodes.specs.Put.{node_at, first_of, row, kind_of, linked, with_node};
+ghost use Rattle.std.specs.Prelude.{◌≡◌, ◌<◌, length, drop};
+ghost use Rattle.nodes.specs.Put.{first_of, row, kind_of, AllBelow, linked, with_node};
 
 use crate::kind::{Entry, Kind, Row};
 use crate::shape::{Part, Shape};
@@ -8,7 +8,7 @@ use units::span::{Span, Text};
 fn node_at(parts: &[Part], i: usize) -> u16
     ensures { result ≡ first_of (drop i parts.now) }
 {
-    if i < parts.len() { parts[i].node } else { 0 }
+    parts.get(i).map_or(0, |part| part.node)
 }
 
 // The parts from i on, as a row.
@@ -67,27 +67,23 @@ pub fn kind_of(shape: Shape, parts: &[Part]) -> Kind
 
 // Makes the parts a row, each with the parent n.
 fn link(entries: &mut [Entry], parts: &[Part], n: u16)
-    requires { (k : ℕ) → k < length parts.now → node_at parts.now k < length entries.old }
+    requires { AllBelow (length entries.old) parts.now }
     ensures { entries.new ≡ linked parts.now n entries.old }
 {
     let mut next = 0;
-    for i in (0..parts.len()).rev() {
-        let part = parts[i];
-        let e = entries[part.node as usize];
-        entries[part.node as usize] = Entry {
-            kind: e.kind,
-            height: e.height,
-            parent: Some(n),
-            next,
-            after: part.after,
-        };
+    for part in parts.iter().rev() {
+        let entry = &mut entries[part.node as usize];
+        entry.parent = Some(n);
+        entry.next = next;
+        entry.after = part.after;
         next = part.node;
     }
 }
 
 // Puts a new node at n over the parts.
 pub fn put(entries: &mut [Entry], n: u16, kind: Kind, height: u16, parts: &[Part])
-    requires { (n < length entries.old) × ((k : ℕ) → k < length parts.now → node_at parts.now k < length entries.old) }
+    requires present { n < length entries.old }
+    requires parts { AllBelow (length entries.old) parts.now }
     ensures { entries.new ≡ with_node entries.old n kind height parts.now }
 {
     link(entries, parts, n);

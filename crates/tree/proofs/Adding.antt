@@ -1,5 +1,5 @@
 -- A tree with a new node keeps what a tree keeps, and says what was built.
-use Rattle.std.proofs.Common.{◌≡◌, ℕ, ◌+◌, ◌<◌, Bool, true, List, [], ◌∷◌, ◌++◌, length, take, drop, sym, refl, ap, ◌∙◌, subst, ⊎_elim, arith, take_at}
+use Rattle.std.proofs.Common.{◌≡◌, ℕ, ◌+◌, ◌<◌, Bool, true, List, ◌++◌, length, take, drop, sym, refl, ap, ◌∙◌, subst, ⊎_elim, arith, take_at}
 use Rattle.std.proofs.lemmas.Bool.{cases_eq, and_parts, and_from, le-leb}
 use Rattle.units.specs.Spans.{is_within}
 use Rattle.nodes.specs.declared.kind.Kind.{Kind}
@@ -9,10 +9,10 @@ use Rattle.nodes.specs.declared.shape.Shape.{Shape}
 use Rattle.nodes.specs.declared.shape.Shape.TheVariants as S
 use Rattle.nodes.specs.Meaning.{no_span, at, Sound, Held, Single}
 use Rattle.nodes.specs.Put.{kind_of, tallest, with_node}
-use Rattle.nodes.proofs.Building.{Afters, new_at, old_kind, old_after, old_parents, length_new}
+use Rattle.nodes.proofs.Building.{new_at, old_kind, old_after, old_parents, length_new}
 use Rattle.nodes.proofs.NewNode.{new_sound, new_held, new_single, new_others, new_stands, new_levels}
 use Rattle.tree.specs.State.{State, kind_fits, Fitting, Levelled, Rooted}
-use Rattle.tree.specs.Calls.{name_listed, RawParts, ShapeFits, Buildable, Built}
+use Rattle.tree.specs.Calls.{name_listed, ShapeFits, Buildable, Built}
 
 -- the kind of a new node refers to what is there
 kind_fits_lem : (written : Bool) (a : State) (sh : Shape) (ps : List Part) → name_listed a sh ≡ true → ShapeFits written a sh → kind_fits (length a.texts.names) (length a.texts.source) (length a.texts.folded) (kind_of sh ps) ≡ true
@@ -30,10 +30,6 @@ kind_fits_lem w a (S.Index m) ps n f = refl
 kind_fits_lem w a (S.Call m) ps n f = refl
 kind_fits_lem w a S.Chain ps n f = refl
 kind_fits_lem w a S.Sequence ps n f = refl
-
-afters : (a : State) (ps : List Part) → RawParts a ps → Afters (λ s. is_within s (length a.texts.source) (length a.texts.folded) ≡ true) ps
-afters a [] r = tt
-afters a (p ∷ ps) r = (r.0.0.1, afters a ps r.1)
 
 -- what every tree keeps
 abbrev pub Keeps : State → List Entry → ℕ → Type 0
@@ -58,7 +54,7 @@ module _ (written : Bool) (a : State) (sh : Shape) (ps : List Part) (k : Keeps a
       let w = and_parts (kind_fits (length a.texts.names) (length a.texts.source) (length a.texts.folded) (at a.entries n).kind) (is_within (at a.entries n).after (length a.texts.source) (length a.texts.folded)) (k.1.1.1.0 n lo) in
       and_from (kind_fits (length a.texts.names) (length a.texts.source) (length a.texts.folded) (at fs n).kind) (is_within (at fs n).after (length a.texts.source) (length a.texts.folded))
       (rw (old_kind a.entries a.used (kind_of sh ps) (tallest a.entries ps + 4) ps k.0 ok.1.0 ok.5 n lo) w.0)
-      (old_after a.entries a.used (kind_of sh ps) (tallest a.entries ps + 4) ps k.0 ok.1.0 ok.5 (λ s. is_within s (length a.texts.source) (length a.texts.folded) ≡ true) (afters a ps ok.2.2) n lo w.1))
+      (old_after a.entries a.used (kind_of sh ps) (tallest a.entries ps + 4) ps k.0 ok.1.0 ok.5 (λ s. is_within s (length a.texts.source) (length a.texts.folded) ≡ true) (λ i p l. (ok.2.2 i p l).0.1) n lo w.1))
       (cases_eq n a.used)
 
   keeps : Keeps a fs (a.used + 1)

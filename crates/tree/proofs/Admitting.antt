@@ -1,26 +1,31 @@
 -- The facts behind the checks of a new node.
-use Rattle.std.proofs.Common.{◌≡◌, ℕ, zero, suc, ◌*◌, ◌<◌, ◌≤◌, Bool, true, false, List, [], ◌∷◌, length, is_some, Some, None, Option, refl, inl, inr, arith}
+use Rattle.std.proofs.Common.{◌≡◌, ℕ, zero, suc, ◌*◌, ◌<◌, ◌≤◌, Bool, true, false, List, [], ◌∷◌, length, None, Option, refl, inl, inr, arith}
+use Rattle.std.specs.Bool.{MatchBool}
+use Rattle.std.specs.List.{AllWithin, All, HoldsAt}
+use Rattle.std.proofs.lemmas.List.Elements.{All-from_get_or}
 use Rattle.nodes.specs.declared.kind.Entry.{Entry}
 use Rattle.nodes.specs.declared.shape.Part.{Part}
 use Rattle.nodes.specs.Meaning.{Texts}
 use Rattle.nodes.specs.Made.{given, deepest, nodes, free}
-use Rattle.nodes.specs.Put.{node_at, tallest}
+use Rattle.nodes.specs.Put.{no_part, node_at, AllBelow, tallest}
 use Rattle.nodes.proofs.Members.{In}
 use Rattle.nodes.proofs.Building.{free_each}
 use Rattle.nodes.proofs.Levels.{tallest-deepest}
 use Rattle.tree.specs.State.{Levelled}
 
-pub unrooted : (o : Option ℕ) (b : Bool) → b ≡ is_some o → b ≡ false → o ≡ None
-unrooted None b e f = refl
-unrooted (Some n) b e f = let z : ◌≡◌ {A = ℕ} 0 1 = cc in absurd (omega arith)
+-- whether each part has P, where a search for one without it came back
+pub decides_all : (P : Part → Type 0) (ps : List Part) (r : Bool) → MatchBool r (AllWithin P ps 0 (length ps)) ((k : ℕ) × (k < length ps) × HoldsAt (λ p. P p → ⊥) ps k) → MatchBool r (All P ps) (All P ps → ⊥)
+decides_all P ps true w = λ k d lt. w k d (omega arith) lt
+decides_all P ps false w = λ all. w.2 no_part (all w.0 no_part w.1)
 
-node_in : (ps : List Part) (k : ℕ) → k < length ps → In (node_at ps k) (nodes ps)
-node_in [] k lt = absurd (omega arith)
-node_in (p ∷ ps) zero lt = inl refl
-node_in (p ∷ ps) (suc k) lt = inr (node_in ps k (omega arith))
-
-pub nodes_low : (es : List Entry) (used : ℕ) (ps : List Part) → free es used ps ≡ true → (k : ℕ) → k < length ps → node_at ps k < used
-nodes_low es used ps fr k lt = (free_each es used ps fr (node_at ps k) (node_in ps k lt)).0
+-- free parts are in use
+pub free_below : (es : List Entry) (used : ℕ) (ps : List Part) → free es used ps ≡ true → AllBelow used ps
+free_below es used ps fr = All-from_get_or (λ p. p.node < used) ps no_part (λ k lt. (free_each es used ps fr (node_at ps k) (node_in ps k lt)).0)
+  where
+    node_in : (ps : List Part) (k : ℕ) → k < length ps → In (node_at ps k) (nodes ps)
+    node_in [] k lt = absurd (omega arith)
+    node_in (p ∷ ps) zero lt = inl refl
+    node_in (p ∷ ps) (suc k) lt = inr (node_in ps k (omega arith))
 
 module _ (t : Texts) (es : List Entry) (used : ℕ) (ps : List Part) (root : Option ℕ) (lv : Levelled root t es used) (r : root ≡ None) (fr : free es used ps ≡ true) where
   deep : tallest es ps ≡ 4 * deepest (given t es ps)

@@ -1,13 +1,13 @@
 -- Marks, read off the entries.
-use Rattle.std.proofs.Common.{◌≡◌, ℕ, ◌+◌, ◌<◌, Bool, true, false, not, ◌&&◌, ◌||◌, List, [], ◌∷◌, length, drop, Some, None, Option, sym, refl, ap, ◌∙◌, arith}
-use Rattle.std.proofs.lemmas.List.{at_drop_more}
+use Rattle.std.proofs.Common.{◌≡◌, ℕ, ◌<◌, Bool, true, false, not, ◌&&◌, ◌||◌, List, [], ◌∷◌, length, Some, None, Option, sym, refl, ap, ◌∙◌, arith}
+use Rattle.std.specs.List.{list_all}
 use Rattle.syntax.specs.Expr.{marked}
 use Rattle.nodes.specs.declared.kind.Entry.{Entry}
 use Rattle.nodes.specs.declared.spine.Link.{Link}
 use Rattle.nodes.specs.declared.shape.Part.{Part}
 use Rattle.nodes.specs.Meaning.{Texts, at, expr, Sound}
 use Rattle.nodes.specs.Made.{given, unmarked, marked_first}
-use Rattle.nodes.specs.Put.{no_part, node_at}
+use Rattle.nodes.specs.Put.{node_at}
 use Rattle.nodes.specs.Spine.{link_of}
 use Rattle.nodes.proofs.Spines.{marked_by, mean-marked, link_part}
 use Rattle.tree.proofs.Steps.{node, part}
@@ -32,10 +32,9 @@ module _ (t : Texts) (es : List Entry) (used : ℕ) (s : Sound es used) (n : ℕ
   pub no_link : (o : Option Link) → o ≡ link_of en.kind → o ≡ None → false ≡ marked (expr t es n)
   no_link o i w = sym (marked_at o i ∙ ap (marked_by (expr t es)) w)
 
--- one part more of those that have no mark
-pub unmarked_more : (t : Texts) (es : List Entry) (ps : List Part) (i : ℕ) → i < length ps
-    → unmarked (given t es (drop i ps)) ≡ (not (marked (expr t es (node_at ps i))) && unmarked (given t es (drop (i + 1) ps)))
-unmarked_more t es ps i lt = at_drop_more (λ xs. unmarked (given t es xs)) ps i no_part lt
+pub all_unmarked : (t : Texts) (es : List Entry) (ps : List Part) → list_all (λ p. not (marked (expr t es p.node))) ps ≡ unmarked (given t es ps)
+all_unmarked t es [] = refl
+all_unmarked t es (p ∷ ps) = ap (λ b. not (marked (expr t es p.node)) && b) (all_unmarked t es ps)
 
 pub first_marked : (t : Texts) (es : List Entry) (ps : List Part) → (length ps ≡ 0 → ⊥) → marked_first (given t es ps) ≡ marked (expr t es (node_at ps 0))
 first_marked t es [] h = absurd (h refl)

@@ -1,5 +1,5 @@
 -- The calls on a tree: when each is refused, and what it leaves.
-use Rattle.std.specs.Prelude.{◌≡◌, ℕ, suc, ◌<◌, ◌≤◌, Bool, true, false, cond, ◌&&◌, List, [], ◌∷◌, ◌++◌, length, drop, is_some, Some, None, Option, ◌≢◌, nat_lt, slice_index_or, Float}
+use Rattle.std.specs.Prelude.{◌≡◌, ℕ, suc, ◌<◌, ◌≤◌, Bool, true, false, cond, ◌&&◌, List, [], ◌∷◌, ◌++◌, length, drop, is_some, Some, None, Option, ◌≢◌, All, nat_lt, slice_index_or, Float}
 use Rattle.units.specs.declared.span.Span.{Span}
 use Rattle.units.specs.Spans.{is_within}
 use Rattle.template.specs.Raw.{Raw}
@@ -31,6 +31,11 @@ number_of R.LooseMark = 7
 number_of R.TooDeep = 8
 number_of R.NoRoom = 10
 number_of R.ShortOutput = 11
+
+-- the number of a refused `open`; want of memory has none
+abbrev pub open_number_of : OpenError → Option ℕ
+open_number_of O.OutsideLimits = Some 1
+open_number_of O.NoMemory = None
 
 -- Conditions are checked in order: a refusal says that those before its own held, and its own did not.
 abbrev pub Not : Type 0 → Type 0
@@ -105,9 +110,9 @@ InSource a s = (in_source s.text ≡ true) × (is_within s (length a.texts.sourc
 abbrev pub RawPart : State → Span → Type 0
 RawPart a s = InSource a s × ((cooked : List ℕ) × Raw (units_of a.texts s) cooked)
 
+-- the text after each part is one
 abbrev pub RawParts : State → List Part → Type 0
-RawParts a [] = Unit {0}
-RawParts a (p ∷ ps) = RawPart a p.after × RawParts a ps
+RawParts a ps = All (λ p. RawPart a p.after) ps
 
 -- what a shape says by itself; `written` is whether the tree's writer has a text for its number
 abbrev pub ShapeFits : Bool → State → Shape → Type 0

@@ -1,5 +1,5 @@
-ghost use Rattle.std.specs.Prelude.{◌≡◌, ℕ, ◌<◌, ◌≤◌, true, false, length, MatchBool, MatchResult};
-ghost use Rattle.nodes.specs.Put.{tallest as Tallest};
+ghost use Rattle.std.specs.Prelude.{◌≡◌, ◌<◌, MatchBool, MatchResult};
+ghost use Rattle.nodes.specs.Put.{tallest};
 ghost use Rattle.tree.specs.Calls.{Not, name_listed, InSource, RawPart, RawParts, ShapeFits, Good, Buildable, Built, BuildRefused};
 ghost use Rattle.tree.specs.Of.{state_of};
 
@@ -38,12 +38,7 @@ impl Store {
     fn are_raw(&self, parts: &[Part]) -> bool
         ensures { MatchBool result (RawParts (state_of self.now) parts.now) (Not (RawParts (state_of self.now) parts.now)) }
     {
-        for i in 0..parts.len() {
-            if !self.is_raw(parts[i].after) {
-                return false;
-            }
-        }
-        true
+        parts.iter().all(|part| self.is_raw(part.after))
     }
 
     fn name_listed(&self, shape: Shape) -> bool
@@ -77,11 +72,9 @@ impl Store {
 
     // The height of the parts, where a node of that shape may be built over them.
     fn admit(&self, shape: Shape, parts: &[Part], written: bool) -> Result<u16, Refusal>
-        ensures { MatchResult result (λ h. Buildable written (state_of self.now) shape parts.now × (h ≡ Tallest self.now.entries.items parts.now) × (h < 256)) (λ e. BuildRefused written (state_of self.now) shape parts.now e) }
+        ensures { MatchResult result (λ h. Buildable written (state_of self.now) shape parts.now × (h ≡ tallest self.now.entries.items parts.now) × (h < 256)) (λ e. BuildRefused written (state_of self.now) shape parts.now e) }
     {
-        if self.root.is_some() {
-            return Err(Refusal::WrongTime);
-        }
+        self.check_unrooted()?;
         if !are_free(&self.entries, self.used, parts) || !self.name_listed(shape) {
             return Err(Refusal::NoSuchNode);
         }
@@ -110,10 +103,7 @@ impl Store {
     ) -> Result<u16, Refusal>
         ensures { MatchResult result (λ n. Built written (state_of self.old) shape parts.now n (state_of self.new)) (λ e. BuildRefused written (state_of self.old) shape parts.now e × (state_of self.new ≡ state_of self.old)) }
     {
-        let below = match self.admit(shape, parts, written) {
-            Ok(height) => height,
-            Err(refusal) => return Err(refusal),
-        };
+        let below = self.admit(shape, parts, written)?;
         let n = self.used as u16;
         let kind = kind_of(shape, parts);
         put(&mut self.entries, n, kind, below + LEVEL, parts);

@@ -23,10 +23,8 @@ impl<W: NumberWriter + Drop> Tree<W> {
     ) -> Result<Tree<W>, OpenError>
         ensures { MatchResult result (λ t. Opened entries folded source.now (tree_state t)) (λ e. OpenRefused entries folded source.now e) }
     {
-        match Store::open(heap, entries, folded, source) {
-            Ok(store) => Ok(Tree { store, writer }),
-            Err(error) => Err(error),
-        }
+        let store = Store::open(heap, entries, folded, source)?;
+        Ok(Tree { store, writer })
     }
 
     // Lists a name, and says what it is; the answer is its index.

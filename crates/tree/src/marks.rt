@@ -1,8 +1,8 @@
-ghost use Rattle.std.specs.Prelude.{◌≡◌, ℕ, ◌<◌, ◌≤◌, length, drop, vec_len};
+ghost use Rattle.std.specs.Prelude.{◌≡◌, ◌<◌};
 ghost use Rattle.syntax.specs.Expr.{marked};
 ghost use Rattle.nodes.specs.Meaning.{at};
 ghost use Rattle.nodes.specs.Made.{unmarked, marks_fit};
-ghost use Rattle.nodes.specs.Put.{node_at};
+ghost use Rattle.nodes.specs.Put.{AllBelow};
 ghost use Rattle.tree.specs.State.{stands_for};
 ghost use Rattle.tree.specs.Calls.{parts as parts_of};
 ghost use Rattle.tree.specs.Of.{state_of};
@@ -31,30 +31,26 @@ impl Store {
         }
     }
 
-    // Whether no part from `from` on has a marked spine.
-    fn are_unmarked(&self, parts: &[Part], from: usize) -> bool
-        requires { (k : ℕ) → k < length parts.now → node_at parts.now k < self.now.used }
-        ensures { result ≡ unmarked (parts_of (state_of self.now) (drop from parts.now)) }
+    // Whether no part has a marked spine.
+    fn are_unmarked(&self, parts: &[Part]) -> bool
+        requires { AllBelow self.now.used parts.now }
+        ensures { result ≡ unmarked (parts_of (state_of self.now) parts.now) }
     {
-        for i in from..parts.len() {
-            if self.is_marked(parts[i].node) {
-                return false;
-            }
-        }
-        true
+        parts.iter().all(|part| !self.is_marked(part.node))
     }
 
     // Whether the parts with a marked spine, if any, stand where such a spine belongs.
     pub(crate) fn marks_fit(&self, shape: Shape, parts: &[Part]) -> bool
-        requires { (k : ℕ) → k < length parts.now → node_at parts.now k < self.now.used }
+        requires { AllBelow self.now.used parts.now }
         ensures { result ≡ marks_fit shape (parts_of (state_of self.now) parts.now) }
     {
-        match shape {
-            Shape::Member { .. } | Shape::Index { .. } | Shape::Call { .. } => self.are_unmarked(
-                parts, 1,
-            ),
-            Shape::Chain => !parts.is_empty() && self.is_marked(parts[0].node),
-            _ => self.are_unmarked(parts, 0),
+        match (shape, parts) {
+            (Shape::Member { .. } | Shape::Index { .. } | Shape::Call { .. }, [_, rest @ ..]) => {
+                self.are_unmarked(rest)
+            }
+            (Shape::Chain, []) => false,
+            (Shape::Chain, [content, ..]) => self.is_marked(content.node),
+            _ => self.are_unmarked(parts),
         }
     }
 }

@@ -21,18 +21,14 @@ impl Store {
     pub(crate) fn name(&mut self, text: &[u16], class: Class) -> Result<u16, Refusal>
         ensures { MatchResult result (λ i. Named (state_of self.old) text.now class i (state_of self.new)) (λ e. NameRefused (state_of self.old) text.now class e × (state_of self.new ≡ state_of self.old)) }
     {
-        if self.root.is_some() {
-            return Err(Refusal::WrongTime);
-        }
+        self.check_unrooted()?;
         if !is_name(text) || !self.class_fits(class) {
             return Err(Refusal::BadName);
         }
         if self.names.find(text).is_some() {
             return Err(Refusal::NotListed);
         }
-        let Some(i) = self.names.add(text) else {
-            return Err(Refusal::NotListed);
-        };
+        let i = self.names.add(text).ok_or(Refusal::NotListed)?;
         self.names.classify(i, class);
         Ok(i as u16)
     }

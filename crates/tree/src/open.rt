@@ -44,21 +44,12 @@ impl Store {
         {
             return Err(OpenError::OutsideLimits);
         }
-        let Ok(nodes) = Vec::from_elem(heap, BLANK, entries) else {
-            return Err(OpenError::NoMemory);
-        };
-        let Ok(text) = Vec::from_slice(heap, source) else {
-            return Err(OpenError::NoMemory);
-        };
-        let Ok(space) = Vec::with_capacity(heap, folded) else {
-            return Err(OpenError::NoMemory);
-        };
         Ok(Store {
-            entries: nodes,
+            entries: Vec::from_elem(heap, BLANK, entries)?,
             used: 0,
             names: Names::new(),
-            source: text,
-            folded: space,
+            source: Vec::from_slice(heap, source)?,
+            folded: Vec::with_capacity(heap, folded)?,
             room: folded,
             root: None,
         })

@@ -1,4 +1,4 @@
-ghost use Rattle.std.specs.Prelude.{◌≡◌, ℕ, ◌<◌, ◌≤◌, length, vec_len, MatchBool};
+ghost use Rattle.std.specs.Prelude.{◌<◌, MatchBool};
 ghost use Rattle.nodes.specs.Meaning.{Reaches};
 ghost use Rattle.tree.specs.State.{Present};
 ghost use Rattle.tree.specs.Calls.{Not};
@@ -9,7 +9,8 @@ use crate::store::Store;
 impl Store {
     // Whether n is `top` or below it: whether parents lead from n to it.
     fn is_below(&self, top: u16, n: u16) -> bool
-        requires { (top < self.now.used) × (n < self.now.used) }
+        requires top { top < self.now.used }
+        requires node { n < self.now.used }
         ensures { MatchBool result (Reaches self.now.entries.items top n) (Not (Reaches self.now.entries.items top n)) }
     {
         let mut at = n;

@@ -12,9 +12,7 @@ impl<W: NumberWriter + Drop> Tree<W> {
     pub fn print(&self, out: &mut [u8]) -> Result<usize, Refusal>
         ensures { MatchResult result (λ n. PrintedTo W.NumberWriter.text (tree_state self.now) out.old n out.new) (λ e. PrintRefused W.NumberWriter.text (tree_state self.now) out.old e × (out.new ≡ out.old)) }
     {
-        let Some(root) = self.store.root else {
-            return Err(Refusal::WrongTime);
-        };
+        let root = self.store.root.ok_or(Refusal::WrongTime)?;
         let view = View {
             entries: &self.store.entries,
             used: self.store.used,
@@ -23,9 +21,6 @@ impl<W: NumberWriter + Drop> Tree<W> {
             folded: &self.store.folded,
             writer: &self.writer,
         };
-        match view.print(root, out) {
-            Some(len) => Ok(len),
-            None => Err(Refusal::ShortOutput),
-        }
+        view.print(root, out).ok_or(Refusal::ShortOutput)
     }
 }

@@ -11,9 +11,7 @@ impl Store {
     pub(crate) fn root(&mut self, n: u16) -> Result<(), Refusal>
         ensures { MatchResult result (λ _. RootNamed (state_of self.old) n (state_of self.new)) (λ e. RootRefused (state_of self.old) n e × (state_of self.new ≡ state_of self.old)) }
     {
-        if self.root.is_some() {
-            return Err(Refusal::WrongTime);
-        }
+        self.check_unrooted()?;
         if !is_loose(&self.entries, self.used, n) {
             return Err(Refusal::NoSuchNode);
         }

@@ -1,8 +1,9 @@
-ghost use Rattle.std.specs.Prelude.{◌≡◌, ℕ, ◌<◌, ◌≤◌, length, vec_len, vec_capacity};
+ghost use Rattle.std.specs.Prelude.{◌≡◌, ◌≤◌, true, length, is_some, None, vec_len, vec_capacity, OnOk, OnErr, IfErr};
 ghost use Rattle.names.specs.Table.{texts, classes};
 ghost use Rattle.nodes.specs.Meaning.{Texts, Sound, Held, Single};
 ghost use Rattle.tree.specs.State.{Fitting, Levelled, Rooted};
 
+use crate::refusal::Refusal;
 use names::table::Names;
 use nodes::kind::Entry;
 
@@ -16,12 +17,28 @@ pub(crate) struct Store {
     pub(crate) folded: Vec<u16>,
     pub(crate) room: usize,
     pub(crate) root: Option<u16>,
-    ghost within: { (used ≤ vec_len entries) × (vec_len entries ≤ 4096) },
-    ghost roomy: { (vec_len folded ≤ room) × (room ≤ vec_capacity folded) },
+    ghost within: { used ≤ vec_len entries },
+    ghost limited: { vec_len entries ≤ 4096 },
+    ghost roomy: { vec_len folded ≤ room },
+    ghost taken: { room ≤ vec_capacity folded },
     ghost sound: { Sound entries.items used },
     ghost held: { Held entries.items used },
     ghost single: { Single entries.items used },
     ghost fitting: { Fitting entries.items used (length (texts names)) (length source.items) (length folded.items) },
     ghost levelled: { Levelled root (record { names = texts names; source = source.items; folded = folded.items }) entries.items used },
     ghost rooted: { Rooted root used },
+}
+
+impl Store {
+    // Refuses what may not be asked once the root is named.
+    pub(crate) fn check_unrooted(&self) -> Result<(), Refusal>
+        ensures ok { OnOk result (self.now.root ≡ None) }
+        ensures err { OnErr result (is_some self.now.root ≡ true) }
+        ensures refusal { IfErr result (λ e. e ≡ Refusal.WrongTime) }
+    {
+        match self.root {
+            None => Ok(()),
+            Some(_) => Err(Refusal::WrongTime),
+        }
+    }
 }

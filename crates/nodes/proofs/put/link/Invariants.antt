@@ -1,6 +1,9 @@
-use Rattle.std.proofs.Common.{◌≡◌, drop}
+use Rattle.std.proofs.Common.{◌≡◌, ◌-◌, length, drop}
 use Rattle.nodes.specs.Put.{linked, first_of}
 use Rattle.nodes.proofs.put.link.Given as goal
 
-abbrev pub invariant-loop-i : goal.invariant-loop-i
-invariant-loop-i l = (l.entries ≡ linked (drop l.i l.parts) l.n l.initial.entries) × (l.next ≡ first_of (drop l.i l.parts))
+abbrev pub invariant-loop-part : goal.invariant-loop-part
+invariant-loop-part l = record {
+  made : l.entries ≡ linked (drop (length l.parts - length l.yielded) l.parts) l.n l.initial.entries;
+  following : l.next ≡ first_of (drop (length l.parts - length l.yielded) l.parts);
+}

@@ -4,14 +4,14 @@ use Rattle.nodes.specs.Made.{free, marks_fit}
 use Rattle.nodes.specs.Put.{tallest}
 use Rattle.tree.specs.Calls.{Found, Good, parts}
 use Rattle.tree.specs.Of.{state_of, texts_of}
-use Rattle.tree.proofs.Admitting.{unrooted, nodes_low, too_deep, shallow}
+use Rattle.tree.proofs.Admitting.{free_below, too_deep, shallow}
 use Rattle.tree.proofs.store.Store.admit.Goals as goal
 use Rattle.tree.proofs.store.Store.admit.Goals.{Else-not-is_good, After-tallest-below}
 
 -- what has passed when the marks are looked at
 passed : (c : goal.Else-not-is_good) → (c.args.self.now.root ≡ None) × Found (state_of c.args.self.now) c.args.shape c.args.parts.now × Good c.args.written (state_of c.args.self.now) c.args.shape c.args.parts.now
 passed c = (
-  unrooted c.args.self.now.root c.is_some.result c.is_some.ensures c.if-is_some.false,
+  c.in_ok-check_unrooted.ensures.ok,
   (
     ap (λ (es : List Entry). free es c.args.self.now.used c.args.parts.now) (sym c.deref.ensures.value) ∙ sym c.are_free.ensures ∙ c.if-not-are_free.false,
     sym c.name_listed.ensures ∙ c.if-not-name_listed.false,
@@ -20,12 +20,12 @@ passed c = (
 )
 
 pub marks_fit-requires : goal.marks_fit-requires
-marks_fit-requires c = nodes_low (vec_items c.args.self.now.entries) c.args.self.now.used c.args.parts.now (passed c).1.0
+marks_fit-requires c = free_below (vec_items c.args.self.now.entries) c.args.self.now.used c.args.parts.now (passed c).1.0
 
 pub tallest-below-requires : goal.tallest-below-requires
-tallest-below-requires c = λ k lt.
+tallest-below-requires c = λ k d lt.
     let self = c.args.self.now in
-    let w = nodes_low (vec_items self.entries) self.used c.args.parts.now (passed (goal.at.tallest-below-requires c).Else-not-is_good).1.0 k lt in omega arith
+    let w = free_below (vec_items self.entries) self.used c.args.parts.now (passed (goal.at.tallest-below-requires c).Else-not-is_good).1.0 k d lt in omega arith
 
 -- and when the height is known
 fits : (c : goal.After-tallest-below) → marks_fit c.args.shape (parts (state_of c.args.self.now) c.args.parts.now) ≡ true
