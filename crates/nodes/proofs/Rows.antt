@@ -14,9 +14,9 @@ any_node n [] = refl
 any_node n (p ∷ ps) = ap (λ b. eqb n p.node || b) (any_node n ps)
 
 -- the parts from i on are free if that at i is and those after it are
-pub free_more : (es : List Entry) (used : ℕ) (ps : List Part) (i : ℕ) → i < length ps
-    → free es used (drop i ps) ≡ (loose es used (node_at ps i) && (not (has (node_at ps i) (nodes (drop (i + 1) ps))) && free es used (drop (i + 1) ps)))
-free_more es used ps i lt = at_drop_more (free es used) ps i no_part lt
+pub free_more : (es : List Entry) (ps : List Part) (i : ℕ) → i < length ps
+    → free es (drop i ps) ≡ (loose es (node_at ps i) && (not (has (node_at ps i) (nodes (drop (i + 1) ps))) && free es (drop (i + 1) ps)))
+free_more es ps i lt = at_drop_more (free es) ps i no_part lt
 
 pub fold-tallest : (es : List Entry) (ps : List Part) → fold (λ h p. max h (at es p.node).height) 0 ps ≡ tallest es ps
 fold-tallest es ps = from 0 ps ∙ none (tallest es ps)

@@ -122,11 +122,11 @@ abbrev pub nodes : List Part → List ℕ
 nodes [] = []
 nodes (p ∷ ps) = p.node ∷ nodes ps
 
--- a node in use that is no part of another
-abbrev pub loose : List Entry → ℕ → ℕ → Bool
-loose es used n = nat_lt n used && not (is_some (at es n).parent)
+-- a node that is no part of another
+abbrev pub loose : List Entry → ℕ → Bool
+loose es n = nat_lt n (length es) && not (is_some (at es n).parent)
 
--- nodes that may become the parts of a new one: in use, no parts yet, and none given twice
-abbrev pub free : List Entry → ℕ → List Part → Bool
-free es used [] = true
-free es used (p ∷ ps) = loose es used p.node && (not (has p.node (nodes ps)) && free es used ps)
+-- nodes that may become the parts of a new one: there, no parts yet, and none given twice
+abbrev pub free : List Entry → List Part → Bool
+free es [] = true
+free es (p ∷ ps) = loose es p.node && (not (has p.node (nodes ps)) && free es ps)

@@ -1,4 +1,4 @@
-ghost use Rattle.std.specs.Prelude.{◌≡◌, ◌≤◌, length};
+ghost use Rattle.std.specs.Prelude.{◌≡◌, length};
 ghost use Rattle.nodes.specs.Made.{nodes, loose, free};
 ghost use Rattle.nodes.specs.Meaning.{has};
 ghost use Rattle.nodes.specs.Put.{AllBelow, tallest};
@@ -6,13 +6,13 @@ ghost use Rattle.nodes.specs.Put.{AllBelow, tallest};
 use crate::kind::Entry;
 use crate::shape::Part;
 
-// Whether n is in use and no part of another node.
-pub fn is_loose(entries: &[Entry], used: usize, n: u16) -> bool
-    requires { used ≤ length entries.now }
-    ensures { result ≡ loose entries.now used n }
+// Whether n is a node and no part of another.
+pub fn is_loose(entries: &[Entry], n: u16) -> bool
+    ensures { result ≡ loose entries.now n }
 {
-    let n = n as usize;
-    n < used && entries[n].parent.is_none()
+    entries
+        .get(n as usize)
+        .is_some_and(|entry| entry.parent.is_none())
 }
 
 // Whether n is the node of a part.
@@ -23,12 +23,11 @@ fn is_among(parts: &[Part], n: u16) -> bool
 }
 
 // Whether the parts may become those of a new node.
-pub fn are_free(entries: &[Entry], used: usize, parts: &[Part]) -> bool
-    requires { used ≤ length entries.now }
-    ensures { result ≡ free entries.now used parts.now }
+pub fn are_free(entries: &[Entry], parts: &[Part]) -> bool
+    ensures { result ≡ free entries.now parts.now }
 {
     for (i, part) in parts.iter().enumerate() {
-        if !is_loose(entries, used, part.node) || is_among(&parts[i + 1..], part.node) {
+        if !is_loose(entries, part.node) || is_among(&parts[i + 1..], part.node) {
             return false;
         }
     }

@@ -1,4 +1,4 @@
-ghost use Rattle.std.specs.Prelude.{◌≡◌, ◌<◌, length, drop};
+ghost use Rattle.std.specs.Prelude.{◌≡◌, ◌+◌, ◌<◌, ◌≤◌, length, drop, vec_len, vec_capacity};
 ghost use Rattle.nodes.specs.Put.{first_of, row, kind_of, AllBelow, linked, with_node};
 
 use crate::kind::{Entry, Kind, Row};
@@ -80,14 +80,19 @@ fn link(entries: &mut [Entry], parts: &[Part], n: u16)
     }
 }
 
-// Puts a new node at n over the parts.
-pub fn put(entries: &mut [Entry], n: u16, kind: Kind, height: u16, parts: &[Part])
-    requires present { n < length entries.old }
-    requires parts { AllBelow (length entries.old) parts.now }
-    ensures { entries.new ≡ with_node entries.old n kind height parts.now }
+// Adds a node over the parts behind the others, and tells its number.
+pub fn put(entries: &mut Vec<Entry>, kind: Kind, height: u16, parts: &[Part]) -> u16
+    requires room { vec_len entries.old < vec_capacity entries.old }
+    requires numbered { vec_len entries.old < 65536 }
+    requires parts { AllBelow (vec_len entries.old) parts.now }
+    ensures number { result ≡ vec_len entries.old }
+    ensures items { entries.new.items ≡ with_node entries.old.items kind height parts.now }
+    ensures len { vec_len entries.new ≡ vec_len entries.old + 1 }
+    ensures capacity { vec_capacity entries.old ≤ vec_capacity entries.new }
 {
+    let n = entries.len() as u16;
     link(entries, parts, n);
-    entries[n as usize] = Entry {
+    let entry = Entry {
         kind,
         height,
         parent: None,
@@ -98,4 +103,6 @@ pub fn put(entries: &mut [Entry], n: u16, kind: Kind, height: u16, parts: &[Part
             len: 0,
         },
     };
+    entries.push(entry).unwrap();
+    n
 }

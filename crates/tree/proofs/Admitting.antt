@@ -19,17 +19,17 @@ decides_all P ps true w = λ k d lt. w k d (omega arith) lt
 decides_all P ps false w = λ all. w.2 no_part (all w.0 no_part w.1)
 
 -- free parts are in use
-pub free_below : (es : List Entry) (used : ℕ) (ps : List Part) → free es used ps ≡ true → AllBelow used ps
-free_below es used ps fr = All-from_get_or (λ p. p.node < used) ps no_part (λ k lt. (free_each es used ps fr (node_at ps k) (node_in ps k lt)).0)
+pub free_below : (es : List Entry) (ps : List Part) → free es ps ≡ true → AllBelow (length es) ps
+free_below es ps fr = All-from_get_or (λ p. p.node < length es) ps no_part (λ k lt. (free_each es ps fr (node_at ps k) (node_in ps k lt)).0)
   where
     node_in : (ps : List Part) (k : ℕ) → k < length ps → In (node_at ps k) (nodes ps)
     node_in [] k lt = absurd (omega arith)
     node_in (p ∷ ps) zero lt = inl refl
     node_in (p ∷ ps) (suc k) lt = inr (node_in ps k (omega arith))
 
-module _ (t : Texts) (es : List Entry) (used : ℕ) (ps : List Part) (root : Option ℕ) (lv : Levelled root t es used) (r : root ≡ None) (fr : free es used ps ≡ true) where
+module _ (t : Texts) (es : List Entry) (ps : List Part) (root : Option ℕ) (lv : Levelled root t es) (r : root ≡ None) (fr : free es ps ≡ true) where
   deep : tallest es ps ≡ 4 * deepest (given t es ps)
-  deep = tallest-deepest 4 t es ps (λ x i. lv r x (free_each es used ps fr x i).0)
+  deep = tallest-deepest 4 t es ps (λ x i. lv r x (free_each es ps fr x i).0)
 
   pub too_deep : 256 ≤ tallest es ps → suc (deepest (given t es ps)) ≤ 64 → ⊥
   too_deep a b = let d = deep in omega arith

@@ -1,4 +1,5 @@
 pub mod Steps
+pub mod Keeping
 pub mod Marking
 pub mod Admitting
 pub mod Adding

@@ -14,7 +14,7 @@ use Rattle.names.specs.declared.table.Class.{Class}
 use Rattle.names.specs.Table.{NotBefore, FirstAt}
 use Rattle.tree.specs.State.{State, kind_fits, Fitting, Levelled}
 use Rattle.tree.specs.Calls.{name_fits, Listable, Named}
-use Rattle.tree.proofs.Adding.{Keeps}
+use Rattle.tree.proofs.Keeping.{Keeps}
 
 abbrev pub more : Texts → List ℕ → Texts
 more t x = record { names = t.names ++ (x ∷ []); source = t.source; folded = t.folded }
@@ -56,18 +56,18 @@ module _ (t : Texts) (x : List ℕ) where
   kind_fits_lem so fo (K.Chain a) f = refl
   kind_fits_lem so fo (K.Sequence a r) f = refl
 
-  module _ (es : List Entry) (used so fo : ℕ) (s : Sound es used) (ft : Fitting es used (length t.names) so fo) where
-    halves : (n : ℕ) → n < used → (kind_fits (length t.names) so fo (at es n).kind ≡ true) × (is_within (at es n).after so fo ≡ true)
+  module _ (es : List Entry) (so fo : ℕ) (s : Sound es (length es)) (ft : Fitting es (length t.names) so fo) where
+    halves : (n : ℕ) → n < length es → (kind_fits (length t.names) so fo (at es n).kind ≡ true) × (is_within (at es n).after so fo ≡ true)
     halves n lt = and_parts (kind_fits (length t.names) so fo (at es n).kind) (is_within (at es n).after so fo) (ft n lt)
 
-    pub named_others : (n : ℕ) → n < used → expr (more t x) es n ≡ expr t es n
-    named_others n lt = frame t (more t x) es es used used s s (λ m. m < used)
-        (λ m l. (l, l, refl, refl, same so fo (at es m).kind (links_of es (at es m).kind) (halves m l).0, λ k i. (s m k (under es used m k l i)).0)) n lt
+    pub named_others : (n : ℕ) → n < length es → expr (more t x) es n ≡ expr t es n
+    named_others n lt = frame t (more t x) es es (length es) (length es) s s (λ m. m < length es)
+        (λ m l. (l, l, refl, refl, same so fo (at es m).kind (links_of es (at es m).kind) (halves m l).0, λ k i. (s m k (under es (length es) m k l i)).0)) n lt
 
-    pub named_fitting : Fitting es used (length (more t x).names) so fo
+    pub named_fitting : Fitting es (length (more t x).names) so fo
     named_fitting n lt = let w = halves n lt in and_from (kind_fits (length (more t x).names) so fo (at es n).kind) (is_within (at es n).after so fo) (kind_fits_lem so fo (at es n).kind w.0) w.1
 
-    pub named_levelled : (root : Option ℕ) → Levelled root t es used → Levelled root (more t x) es used
+    pub named_levelled : (root : Option ℕ) → Levelled root t es → Levelled root (more t x) es
     named_levelled root l r n lt = l r n lt ∙ ap (λ (e : Expr). 4 * levels e) (sym (named_others n lt))
 
 pub set_last : {X : Type 0} (xs : List X) (y z : X) (i : ℕ) → length xs ≡ i → set (xs ++ (y ∷ [])) i z ≡ xs ++ (z ∷ [])
@@ -82,16 +82,23 @@ not_found ts x None b f e n = f
 not_found ts x (Some i) b f e n = let z : ◌≡◌ {A = ℕ} 0 1 = cc in absurd (omega arith)
 
 abbrev pub with_names : State → List (List ℕ) → List Class → State
-with_names a ns cs = record { entries = a.entries; used = a.used; texts = record { names = ns; source = a.texts.source; folded = a.texts.folded }; classes = cs; root = a.root; room = a.room }
+with_names a ns cs = record { entries = a.entries; capacity = a.capacity; texts = record { names = ns; source = a.texts.source; folded = a.texts.folded }; classes = cs; root = a.root; room = a.room }
 
 -- a tree with one name more keeps what a tree keeps, and says what was listed
-pub named : (a : State) (x : List ℕ) (c : Class) (i : ℕ) (ns : List (List ℕ)) (cs : List Class) → Keeps a a.entries a.used → (a.root ≡ None) × (name_fits a x c ≡ true) × Listable a x
-    → i ≡ length a.texts.names → ns ≡ a.texts.names ++ (x ∷ []) → cs ≡ a.classes ++ (c ∷ []) → Keeps (with_names a ns cs) a.entries a.used × Named a x c i (with_names a ns cs)
+pub named : (a : State) (x : List ℕ) (c : Class) (i : ℕ) (ns : List (List ℕ)) (cs : List Class) → Keeps a → (a.root ≡ None) × (name_fits a x c ≡ true) × Listable a x
+    → i ≡ length a.texts.names → ns ≡ a.texts.names ++ (x ∷ []) → cs ≡ a.classes ++ (c ∷ []) → Keeps (with_names a ns cs) × Named a x c i (with_names a ns cs)
 named a x c i ns cs k ok e f g =
     let so = length a.texts.source in
     let fo = length a.texts.folded in
     rw (f, g) (
-      (k.0, (k.1.0, (k.1.1.0, (named_fitting a.texts x a.entries a.used so fo k.0 k.1.1.1.0, (named_levelled a.texts x a.entries a.used so fo k.0 k.1.1.1.0 a.root k.1.1.1.1.0, k.1.1.1.1.1))))),
+      record {
+        sound = k.sound;
+        held = k.held;
+        single = k.single;
+        fitting = named_fitting a.texts x a.entries so fo k.sound k.fitting;
+        levelled = named_levelled a.texts x a.entries so fo k.sound k.fitting a.root k.levelled;
+        rooted = k.rooted;
+      },
       record {
         asked = ok;
         number = e;
@@ -100,9 +107,9 @@ named a x c i ns cs k ok e f g =
         source = refl;
         folded = refl;
         entries = refl;
-        used = refl;
+        capacity = refl;
         root = refl;
         room = refl;
-        others = named_others a.texts x a.entries a.used so fo k.0 k.1.1.1.0;
+        others = named_others a.texts x a.entries so fo k.sound k.fitting;
       },
     )

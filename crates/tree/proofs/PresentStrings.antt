@@ -56,7 +56,7 @@ other t g ls (K.Sequence a r) non = refl
 
 module _ (self : Store) (n : ℕ) (p : Present (state_of self) n) (en : Entry) (e : en ≡ at (vec_items self.entries) n) where
   stands : (k : Kind) → en.kind ≡ k → stands_for (state_of self) n ≡ mean (texts_of self) (stands_for (state_of self)) k (links_of (vec_items self.entries) k)
-  stands = node (texts_of self) (vec_items self.entries) self.used self.sound n (present_used self n p) en e
+  stands = node (texts_of self) (vec_items self.entries) _ self.sound n (present_used self n p) en e
 
   pub a_string : (s : Span) → en.kind ≡ K.String s → stands_for (state_of self) n ≡ Expr.string (units_of (texts_of self) s)
   a_string s is = stands (K.String s) is

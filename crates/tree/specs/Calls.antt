@@ -18,7 +18,7 @@ use Rattle.tree.specs.declared.refusal.Refusal.{Refusal}
 use Rattle.tree.specs.declared.refusal.Refusal.TheVariants as R
 use Rattle.tree.specs.declared.refusal.OpenError.{OpenError}
 use Rattle.tree.specs.declared.refusal.OpenError.TheVariants as O
-use Rattle.tree.specs.State.{State, stands_for, Present}
+use Rattle.tree.specs.State.{State, used, stands_for, Present}
 
 -- the number of a refusal in the table of `docs/REFUSALS.md`
 abbrev pub number_of : Refusal → ℕ
@@ -75,10 +75,10 @@ pub record Named (a : State) (text : List ℕ) (c : Class) (i : ℕ) (b : State)
   pub source : b.texts.source ≡ a.texts.source
   pub folded : b.texts.folded ≡ a.texts.folded
   pub entries : b.entries ≡ a.entries
-  pub used : b.used ≡ a.used
+  pub capacity : b.capacity ≡ a.capacity
   pub root : b.root ≡ a.root
   pub room : b.room ≡ a.room
-  pub others : (m : ℕ) → m < a.used → stands_for b m ≡ stands_for a m
+  pub others : (m : ℕ) → m < used a → stands_for b m ≡ stands_for a m
 
 -- ---- build
 
@@ -100,7 +100,7 @@ name_listed a S.Sequence = true
 
 -- the parts are nodes without a parent, none twice, and a name is listed
 abbrev pub Found : State → Shape → List Part → Type 0
-Found a sh ps = (free a.entries a.used ps ≡ true) × (name_listed a sh ≡ true)
+Found a sh ps = (free a.entries ps ≡ true) × (name_listed a sh ≡ true)
 
 -- a part of the source text
 abbrev pub InSource : State → Span → Type 0
@@ -164,25 +164,25 @@ BuildRefused written a sh ps R.NoSuchNode = (a.root ≡ None) × Not (Found a sh
 BuildRefused written a sh ps R.BadNode = (a.root ≡ None) × Found a sh ps × Not (Good written a sh ps)
 BuildRefused written a sh ps R.LooseMark = (a.root ≡ None) × Found a sh ps × Good written a sh ps × (marks_fit sh (parts a ps) ≡ false)
 BuildRefused written a sh ps R.TooDeep = (a.root ≡ None) × Found a sh ps × Good written a sh ps × (marks_fit sh (parts a ps) ≡ true) × Not (Shallow a ps)
-BuildRefused written a sh ps R.NoRoom = (a.root ≡ None) × Found a sh ps × Good written a sh ps × (marks_fit sh (parts a ps) ≡ true) × Shallow a ps × (a.used ≡ length a.entries)
+BuildRefused written a sh ps R.NoRoom = (a.root ≡ None) × Found a sh ps × Good written a sh ps × (marks_fit sh (parts a ps) ≡ true) × Shallow a ps × (used a ≡ a.capacity)
 BuildRefused written a sh ps R.BadName = ⊥
 BuildRefused written a sh ps R.NotListed = ⊥
 BuildRefused written a sh ps R.ShortOutput = ⊥
 
 abbrev pub Buildable : Bool → State → Shape → List Part → Type 0
-Buildable written a sh ps = (a.root ≡ None) × Found a sh ps × Good written a sh ps × (marks_fit sh (parts a ps) ≡ true) × Shallow a ps × (a.used < length a.entries)
+Buildable written a sh ps = (a.root ≡ None) × Found a sh ps × Good written a sh ps × (marks_fit sh (parts a ps) ≡ true) × Shallow a ps × (used a < a.capacity)
 
 -- The new node has the next number and stands for its shape over what its parts stood for; every other node stands
 -- for what it did. The parts have the new node as their parent, and it has none.
 pub record Built (written : Bool) (a : State) (sh : Shape) (ps : List Part) (n : ℕ) (b : State) : Type 0 where
   pub asked : Buildable written a sh ps
-  pub number : n ≡ a.used
-  pub used : b.used ≡ suc a.used
+  pub number : n ≡ used a
+  pub count : used b ≡ suc (used a)
   pub stands : made a.texts sh (parts a ps) ≡ Some (stands_for b n)
-  pub others : (m : ℕ) → m < a.used → stands_for b m ≡ stands_for a m
+  pub others : (m : ℕ) → m < used a → stands_for b m ≡ stands_for a m
   pub top : (at b.entries n).parent ≡ None
-  pub parents : (m : ℕ) → m < a.used → (at b.entries m).parent ≡ cond (has m (nodes ps)) (Some n) (at a.entries m).parent
-  pub capacity : length b.entries ≡ length a.entries
+  pub parents : (m : ℕ) → m < used a → (at b.entries m).parent ≡ cond (has m (nodes ps)) (Some n) (at a.entries m).parent
+  pub capacity : b.capacity ≡ a.capacity
   pub texts : b.texts ≡ a.texts
   pub classes : b.classes ≡ a.classes
   pub root : b.root ≡ a.root
@@ -192,8 +192,8 @@ pub record Built (written : Bool) (a : State) (sh : Shape) (ps : List Part) (n :
 
 abbrev pub RootRefused : State → ℕ → Refusal → Type 0
 RootRefused a n R.WrongTime = is_some a.root ≡ true
-RootRefused a n R.NoSuchNode = (a.root ≡ None) × (loose a.entries a.used n ≡ false)
-RootRefused a n R.LooseMark = (a.root ≡ None) × (loose a.entries a.used n ≡ true) × (marked (stands_for a n) ≡ true)
+RootRefused a n R.NoSuchNode = (a.root ≡ None) × (loose a.entries n ≡ false)
+RootRefused a n R.LooseMark = (a.root ≡ None) × (loose a.entries n ≡ true) × (marked (stands_for a n) ≡ true)
 RootRefused a n R.BadName = ⊥
 RootRefused a n R.NotListed = ⊥
 RootRefused a n R.BadNode = ⊥
@@ -203,8 +203,8 @@ RootRefused a n R.ShortOutput = ⊥
 
 -- the root is named, and nothing else has changed
 pub record RootNamed (a : State) (n : ℕ) (b : State) : Type 0 where
-  pub asked : (a.root ≡ None) × (loose a.entries a.used n ≡ true) × (marked (stands_for a n) ≡ false)
-  pub state : b ≡ record { entries = a.entries; used = a.used; texts = a.texts; classes = a.classes; root = Some n; room = a.room }
+  pub asked : (a.root ≡ None) × (loose a.entries n ≡ true) × (marked (stands_for a n) ≡ false)
+  pub state : b ≡ record { entries = a.entries; capacity = a.capacity; texts = a.texts; classes = a.classes; root = Some n; room = a.room }
 
 -- ---- read
 
@@ -234,8 +234,8 @@ OpenRefused entries folded source O.NoMemory = InLimits entries folded source
 -- a tree without nodes and names
 pub record Opened (entries folded : ℕ) (source : List ℕ) (a : State) : Type 0 where
   pub asked : InLimits entries folded source
-  pub capacity : length a.entries ≡ entries
-  pub used : a.used ≡ 0
+  pub capacity : a.capacity ≡ entries
+  pub count : used a ≡ 0
   pub texts : a.texts ≡ record { names = []; source = source; folded = [] }
   pub classes : a.classes ≡ []
   pub root : a.root ≡ None

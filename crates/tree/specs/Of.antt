@@ -10,7 +10,7 @@ abbrev pub texts_of : Store → Texts
 texts_of s = record { names = texts s.names; source = vec_items s.source; folded = vec_items s.folded }
 
 abbrev pub state_of : Store → State
-state_of s = record { entries = vec_items s.entries; used = s.used; texts = texts_of s; classes = classes s.names; root = s.root; room = s.room }
+state_of s = record { entries = vec_items s.entries; capacity = s.capacity; texts = texts_of s; classes = classes s.names; root = s.root; room = s.room }
 
 -- what a tree holds
 abbrev pub tree_state : {W : Type 0} → Tree W → State

@@ -75,7 +75,7 @@ impl Store {
         ensures { MatchResult result (λ h. Buildable written (state_of self.now) shape parts.now × (h ≡ tallest self.now.entries.items parts.now) × (h < 256)) (λ e. BuildRefused written (state_of self.now) shape parts.now e) }
     {
         self.check_unrooted()?;
-        if !are_free(&self.entries, self.used, parts) || !self.name_listed(shape) {
+        if !are_free(&self.entries, parts) || !self.name_listed(shape) {
             return Err(Refusal::NoSuchNode);
         }
         if !self.is_good(shape, parts, written) {
@@ -88,7 +88,7 @@ impl Store {
         if below >= MAX_LEVELS * LEVEL {
             return Err(Refusal::TooDeep);
         }
-        if self.used >= self.entries.len() {
+        if self.entries.len() >= self.capacity {
             return Err(Refusal::NoRoom);
         }
         Ok(below)
@@ -104,10 +104,7 @@ impl Store {
         ensures { MatchResult result (λ n. Built written (state_of self.old) shape parts.now n (state_of self.new)) (λ e. BuildRefused written (state_of self.old) shape parts.now e × (state_of self.new ≡ state_of self.old)) }
     {
         let below = self.admit(shape, parts, written)?;
-        let n = self.used as u16;
         let kind = kind_of(shape, parts);
-        put(&mut self.entries, n, kind, below + LEVEL, parts);
-        self.used += 1;
-        Ok(n)
+        Ok(put(&mut self.entries, kind, below + LEVEL, parts))
     }
 }

@@ -5,27 +5,13 @@ ghost use Rattle.tree.specs.Of.{state_of};
 use crate::refusal::OpenError;
 use crate::store::Store;
 use names::table::Names;
-use nodes::kind::{Entry, Kind};
 use std::alloc::Global;
-use units::span::{Span, Text};
 
 const MIN_ENTRIES: usize = 16;
 
 const MAX_ENTRIES: usize = 4096;
 
 const MAX_UNITS: usize = 65536;
-
-const BLANK: Entry = Entry {
-    kind: Kind::Null,
-    height: 0,
-    parent: None,
-    next: 0,
-    after: Span {
-        text: Text::Source,
-        start: 0,
-        len: 0,
-    },
-};
 
 impl Store {
     // A tree with places for so many nodes and so much folded text, over a copy of the source text.
@@ -45,8 +31,8 @@ impl Store {
             return Err(OpenError::OutsideLimits);
         }
         Ok(Store {
-            entries: Vec::from_elem(heap, BLANK, entries)?,
-            used: 0,
+            entries: Vec::with_capacity(heap, entries)?,
+            capacity: entries,
             names: Names::new(),
             source: Vec::from_slice(heap, source)?,
             folded: Vec::with_capacity(heap, folded)?,

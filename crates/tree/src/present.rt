@@ -1,6 +1,6 @@
 ghost use Rattle.std.specs.Prelude.{◌<◌, MatchBool};
 ghost use Rattle.nodes.specs.Meaning.{Reaches};
-ghost use Rattle.tree.specs.State.{Present};
+ghost use Rattle.tree.specs.State.{used, Present};
 ghost use Rattle.tree.specs.Calls.{Not};
 ghost use Rattle.tree.specs.Of.{state_of};
 
@@ -9,8 +9,8 @@ use crate::store::Store;
 impl Store {
     // Whether n is `top` or below it: whether parents lead from n to it.
     fn is_below(&self, top: u16, n: u16) -> bool
-        requires top { top < self.now.used }
-        requires node { n < self.now.used }
+        requires top { top < used (state_of self.now) }
+        requires node { n < used (state_of self.now) }
         ensures { MatchBool result (Reaches self.now.entries.items top n) (Not (Reaches self.now.entries.items top n)) }
     {
         let mut at = n;
@@ -27,7 +27,7 @@ impl Store {
     pub(crate) fn is_present(&self, n: u16) -> bool
         ensures { MatchBool result (Present (state_of self.now) n) (Not (Present (state_of self.now) n)) }
     {
-        if n as usize >= self.used {
+        if n as usize >= self.entries.len() {
             return false;
         }
         match self.root {

@@ -15,7 +15,7 @@ impl<W: NumberWriter + Drop> Tree<W> {
         let root = self.store.root.ok_or(Refusal::WrongTime)?;
         let view = View {
             entries: &self.store.entries,
-            used: self.store.used,
+            used: self.store.entries.len(),
             names: &self.store.names,
             source: &self.store.source,
             folded: &self.store.folded,

@@ -12,7 +12,7 @@ impl Store {
         ensures { MatchResult result (λ _. RootNamed (state_of self.old) n (state_of self.new)) (λ e. RootRefused (state_of self.old) n e × (state_of self.new ≡ state_of self.old)) }
     {
         self.check_unrooted()?;
-        if !is_loose(&self.entries, self.used, n) {
+        if !is_loose(&self.entries, n) {
             return Err(Refusal::NoSuchNode);
         }
         if self.is_marked(n) {

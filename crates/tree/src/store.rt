@@ -11,22 +11,23 @@ use nodes::kind::Entry;
 #[derive(Drop)]
 pub(crate) struct Store {
     pub(crate) entries: Vec<Entry>,
-    pub(crate) used: usize,
+    pub(crate) capacity: usize,
     pub(crate) names: Names,
     pub(crate) source: Vec<u16>,
     pub(crate) folded: Vec<u16>,
     pub(crate) room: usize,
     pub(crate) root: Option<u16>,
-    ghost within: { used ≤ vec_len entries },
-    ghost limited: { vec_len entries ≤ 4096 },
+    ghost within: { vec_len entries ≤ capacity },
+    ghost limited: { capacity ≤ 4096 },
+    ghost reserved: { capacity ≤ vec_capacity entries },
     ghost roomy: { vec_len folded ≤ room },
     ghost taken: { room ≤ vec_capacity folded },
-    ghost sound: { Sound entries.items used },
-    ghost held: { Held entries.items used },
-    ghost single: { Single entries.items used },
-    ghost fitting: { Fitting entries.items used (length (texts names)) (length source.items) (length folded.items) },
-    ghost levelled: { Levelled root (record { names = texts names; source = source.items; folded = folded.items }) entries.items used },
-    ghost rooted: { Rooted root used },
+    ghost sound: { Sound entries.items (length entries.items) },
+    ghost held: { Held entries.items (length entries.items) },
+    ghost single: { Single entries.items (length entries.items) },
+    ghost fitting: { Fitting entries.items (length (texts names)) (length source.items) (length folded.items) },
+    ghost levelled: { Levelled root (record { names = texts names; source = source.items; folded = folded.items }) entries.items },
+    ghost rooted: { Rooted root entries.items },
 }
 
 impl Store {

@@ -13,7 +13,7 @@ after ps i n b e = sym (e ∙ ap (λ xs. has n (nodes xs)) (take_rest ps (i + 1)
 
 pub returns-then-not-is_loose : goal.returns-then-not-is_loose
 returns-then-not-is_loose c =
-    let e = free_more c.args.entries.now c.args.used c.args.parts.now c.loop-i.i (omega arith) in
+    let e = free_more c.args.entries.now c.args.parts.now c.loop-i.i (omega arith) in
     elim c.then-not-is_loose.branch [
       | then-not-is_loose-via-then-not-is_loose w ↦ sym (sym c.loop-i.invariant ∙ e ∙ rw (sym c.is_loose.ensures, w.if-not-is_loose.true) refl)
       | then-not-is_loose-via-else-not-is_loose+then-is_among w ↦ sym (sym c.loop-i.invariant ∙ e ∙ rw (sym c.is_loose.ensures, w.if-not-is_loose.false, after _ _ _ _ w.is_among.ensures, w.if-is_among.true) refl)
@@ -21,8 +21,8 @@ returns-then-not-is_loose c =
 
 pub loop-i-preserved : goal.loop-i-preserved
 loop-i-preserved c =
-    let e = free_more c.args.entries.now c.args.used c.args.parts.now c.loop-i.i (omega arith) in
+    let e = free_more c.args.entries.now c.args.parts.now c.loop-i.i (omega arith) in
     sym (e ∙ rw (sym c.is_loose.ensures, c.if-not-is_loose.false, after _ _ _ _ c.is_among.ensures, c.if-is_among.false) refl) ∙ c.loop-i.invariant
 
 pub returns : goal.returns
-returns c = sym (sym c.loop-i.invariant ∙ at_drop_all (free c.args.entries.now c.args.used) c.args.parts.now c.loop-i.i (omega arith))
+returns c = sym (sym c.loop-i.invariant ∙ at_drop_all (free c.args.entries.now) c.args.parts.now c.loop-i.i (omega arith))

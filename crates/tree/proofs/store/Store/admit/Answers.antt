@@ -13,19 +13,19 @@ passed : (c : goal.Else-not-is_good) → (c.args.self.now.root ≡ None) × Foun
 passed c = (
   c.in_ok-check_unrooted.ensures.ok,
   (
-    ap (λ (es : List Entry). free es c.args.self.now.used c.args.parts.now) (sym c.deref.ensures.value) ∙ sym c.are_free.ensures ∙ c.if-not-are_free.false,
+    ap (λ (es : List Entry). free es c.args.parts.now) (sym c.deref.ensures.value) ∙ sym c.are_free.ensures ∙ c.if-not-are_free.false,
     sym c.name_listed.ensures ∙ c.if-not-name_listed.false,
   ),
   c.if-not-is_good.ensures,
 )
 
 pub marks_fit-requires : goal.marks_fit-requires
-marks_fit-requires c = free_below (vec_items c.args.self.now.entries) c.args.self.now.used c.args.parts.now (passed c).1.0
+marks_fit-requires c = free_below (vec_items c.args.self.now.entries) c.args.parts.now (passed c).1.0
 
 pub tallest-below-requires : goal.tallest-below-requires
 tallest-below-requires c = λ k d lt.
     let self = c.args.self.now in
-    let w = free_below (vec_items self.entries) self.used c.args.parts.now (passed (goal.at.tallest-below-requires c).Else-not-is_good).1.0 k d lt in omega arith
+    let w = free_below (vec_items self.entries) c.args.parts.now (passed (goal.at.tallest-below-requires c).Else-not-is_good).1.0 k d lt in omega arith
 
 -- and when the height is known
 fits : (c : goal.After-tallest-below) → marks_fit c.args.shape (parts (state_of c.args.self.now) c.args.parts.now) ≡ true
@@ -39,18 +39,18 @@ returns-then-below c =
     let self = c.args.self.now in
     let w = passed (goal.at.returns-then-below c).Else-not-is_good in
     let d = (goal.at.returns-then-below c).After-tallest-below in
-    (w.0, w.1, w.2, fits d, too_deep (texts_of self) (vec_items self.entries) self.used c.args.parts.now self.root self.levelled w.0 w.1.0 (let h = height d in omega arith))
+    (w.0, w.1, w.2, fits d, too_deep (texts_of self) (vec_items self.entries) c.args.parts.now self.root self.levelled w.0 w.1.0 (let h = height d in omega arith))
 
-pub returns-then-self-len : goal.returns-then-self-len
-returns-then-self-len c =
+pub returns-then-len-self : goal.returns-then-len-self
+returns-then-len-self c =
     let self = c.args.self.now in
-    let w = passed (goal.at.returns-then-self-len c).Else-not-is_good in
-    let d = (goal.at.returns-then-self-len c).After-tallest-below in
-    (w.0, w.1, w.2, fits d, shallow (texts_of self) (vec_items self.entries) self.used c.args.parts.now self.root self.levelled w.0 w.1.0 (let h = height d in omega arith), omega arith)
+    let w = passed (goal.at.returns-then-len-self c).Else-not-is_good in
+    let d = (goal.at.returns-then-len-self c).After-tallest-below in
+    (w.0, w.1, w.2, fits d, shallow (texts_of self) (vec_items self.entries) c.args.parts.now self.root self.levelled w.0 w.1.0 (let h = height d in omega arith), omega arith)
 
 pub returns : goal.returns
 returns c =
     let self = c.args.self.now in
     let w = passed (goal.at.returns c).Else-not-is_good in
     let d = (goal.at.returns c).After-tallest-below in
-    ((w.0, w.1, w.2, fits d, shallow (texts_of self) (vec_items self.entries) self.used c.args.parts.now self.root self.levelled w.0 w.1.0 (let h = height d in omega arith), omega arith), height d, omega arith)
+    ((w.0, w.1, w.2, fits d, shallow (texts_of self) (vec_items self.entries) c.args.parts.now self.root self.levelled w.0 w.1.0 (let h = height d in omega arith), omega arith), height d, omega arith)

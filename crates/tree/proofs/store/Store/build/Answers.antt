@@ -1,8 +1,12 @@
-use Rattle.std.proofs.Common.{vec_items, arith}
+use Rattle.std.proofs.Common.{◌≡◌, vec_items, arith}
+use Rattle.tree.specs.Calls.{Built}
+use Rattle.tree.specs.State.{used}
 use Rattle.tree.specs.Of.{state_of}
 use Rattle.tree.proofs.Admitting.{free_below}
-use Rattle.tree.proofs.Adding.{Keeps, added}
+use Rattle.tree.proofs.Keeping.{Keeps, kept}
+use Rattle.tree.proofs.Adding.{with_entries, added}
 use Rattle.tree.proofs.store.Store.build.Goals as goal
+use Rattle.tree.proofs.store.Store.build.Goals.{After-put}
 
 pub overflow_add-below : goal.overflow_add-below
 overflow_add-below c = let h = c.in_ok-below.ensures.2 in omega arith
@@ -11,19 +15,35 @@ pub put-requires : goal.put-requires
 put-requires c =
     let self = c.args.self.now in
     let ok = c.in_ok-below.ensures.0 in
-    record { present = omega (arith, ok.5); parts = λ k d lt. let w = free_below (vec_items self.entries) self.used c.args.parts.now ok.1.0 k d lt in omega (arith, ok.5) }
+    record {
+      room = omega (arith, ok.5, self.reserved);
+      numbered = omega (arith, ok.5, self.limited);
+      parts = λ k d lt. let w = free_below (vec_items self.entries) c.args.parts.now ok.1.0 k d lt in omega arith;
+    }
+
+-- what the tree with the new node keeps, and what was built
+built_once : (c : After-put) → Keeps (with_entries (state_of c.args.self.now) (vec_items c.put.new.entries)) × Built c.args.written (state_of c.args.self.now) c.args.shape c.args.parts.now (used (state_of c.args.self.now)) (with_entries (state_of c.args.self.now) (vec_items c.put.new.entries))
+built_once c =
+    let a = c.in_ok-below.ensures in
+    added c.args.written (state_of c.args.self.now) c.args.shape c.args.parts.now (kept c.args.self.now) a.0 (vec_items c.put.new.entries) c.kind_of-kind.result c.in_ok-below.below c.put.ensures.items c.kind_of-kind.ensures a.1
 
 pub invariant_of-self : goal.invariant_of-self
 invariant_of-self c =
     let self = c.args.self.now in
-    let a = c.in_ok-below.ensures in
-    let k : Keeps (state_of self) (vec_items self.entries) self.used = (self.sound, (self.held, (self.single, (self.fitting, (self.levelled, self.rooted))))) in
-    let w = (added c.args.written (state_of self) c.args.shape c.args.parts.now k a.0 c.deref_mut.result.now c.put.new.entries self.entries.items self.entries.len c.in_ok-below.below c.kind_of-kind.result c.deref_mut.ensures.value c.kind_of-kind.ensures a.1 c.put.ensures (omega arith)).0 in
-    record { within = omega (arith, a.0.5); limited = omega arith; roomy = self.roomy; taken = self.taken; sound = w.0; held = w.1.0; single = w.1.1.0; fitting = w.1.1.1.0; levelled = w.1.1.1.1.0; rooted = w.1.1.1.1.1 }
+    let w = (built_once c).0 in
+    record {
+      within = let ok = c.in_ok-below.ensures.0 in omega (arith, ok.5);
+      limited = self.limited;
+      reserved = omega arith;
+      roomy = self.roomy;
+      taken = self.taken;
+      sound = w.sound;
+      held = w.held;
+      single = w.single;
+      fitting = w.fitting;
+      levelled = w.levelled;
+      rooted = w.rooted;
+    }
 
 pub returns : goal.returns
-returns c =
-    let self = c.args.self.now in
-    let a = c.in_ok-below.ensures in
-    let k : Keeps (state_of self) (vec_items self.entries) self.used = (self.sound, (self.held, (self.single, (self.fitting, (self.levelled, self.rooted))))) in
-    (added c.args.written (state_of self) c.args.shape c.args.parts.now k a.0 c.deref_mut.result.now c.put.new.entries self.entries.items self.entries.len c.in_ok-below.below c.kind_of-kind.result c.deref_mut.ensures.value c.kind_of-kind.ensures a.1 c.put.ensures (omega arith)).1
+returns c = let number : c.put.result ≡ used (state_of c.args.self.now) = omega arith in rw number (built_once (goal.at.returns c).After-put).1
