@@ -1,15 +1,35 @@
 -- Laws of `put`.
-use Rattle.std.proofs.Common.{◌≡◌, ℕ, suc, ◌+◌, ◌-◌, ◌^◌, ◌<◌, ◌≤◌, min, List, [], ◌∷◌, ◌++◌, length, drop, set, sym, refl, ap, ◌∙◌, add-zero, zero-add, arith}
+use Rattle.std.proofs.Common.{◌≡◌, ℕ, suc, ◌+◌, ◌-◌, ◌^◌, ◌<◌, ◌≤◌, min, List, [], ◌∷◌, ◌++◌, length, get_or, take, drop, set, sym, refl, ap, ◌∙◌, subst, add-zero, zero-add, append-nil, arith}
+use Rattle.std.proofs.lemmas.List.{take_more}
 use Rattle.std.proofs.lemmas.List.Edits.{sets, sets-eq}
-use Rattle.units.specs.Sinks.{put, put_byte}
+use Rattle.std.proofs.lemmas.Str.{encodes-append}
+use lib.Utf8.{encode, encodes}
+use Rattle.units.specs.declared.sink.Sink.{Sink}
+use Rattle.units.specs.Sinks.{state_of, put, put_byte, Puts}
 
 pub put-append : (s : List ℕ × ℕ) (xs ys : List ℕ) → put (put s xs) ys ≡ put s (xs ++ ys)
 put-append s [] ys = refl
 put-append s (x ∷ xs) ys = put-append (put_byte s x) xs ys
 
+-- ---- what a sink has put
+
 -- one step after another
-pub put_then : {t u : List ℕ × ℕ} (s : List ℕ × ℕ) (xs ys : List ℕ) → t ≡ put s xs → u ≡ put t ys → u ≡ put s (xs ++ ys)
-put_then s xs ys e f = f ∙ ap (λ t. put t ys) e ∙ put-append s xs ys
+pub puts_then : {s t u : Sink} {xs ys : List ℕ} → Puts s xs t → Puts t ys u → Puts s (xs ++ ys) u
+puts_then {s} {t} {u} {xs} {ys} p q =
+    record { state = q.state ∙ ap (λ r. put r ys) p.state ∙ put-append (state_of s) xs ys; lent = q.lent ∙ p.lent }
+
+-- other bytes that are the same
+pub puts_is : {s t : Sink} {xs ys : List ℕ} → Puts s xs t → xs ≡ ys → Puts s ys t
+puts_is {s} {t} p e = subst (λ zs. Puts s zs t) e p
+
+-- a byte of a list, or a code point of a text, after those before it
+pub puts_byte : {s t u : Sink} (bs : List ℕ) (i : ℕ) → i < length bs → Puts s (take i bs) t → Puts t (get_or bs i 0 ∷ []) u → Puts s (take (i + 1) bs) u
+puts_byte bs i h p q = puts_is (puts_then p q) (sym (take_more bs i 0 h))
+
+pub puts_code_point : {s t u : Sink} (cs : List ℕ) (c : ℕ) → Puts s (encodes cs) t → Puts t (encode c) u → Puts s (encodes (cs ++ c ∷ [])) u
+puts_code_point cs c p q = puts_is (puts_then p q) (sym (encodes-append cs (c ∷ []) ∙ ap (λ r. encodes cs ++ r) (append-nil (encode c))))
+
+-- ---- how many bytes, and where they stand
 
 count_from : (s : List ℕ × ℕ) (bs : List ℕ) → s.1 ≤ 2 ^ 64 - 1 → (put s bs).1 ≡ min (s.1 + length bs) (2 ^ 64 - 1)
 count_from s [] h = omega arith

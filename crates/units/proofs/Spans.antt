@@ -1,13 +1,10 @@
--- A span's part under clamped ends, and as the folded text grows.
-use Rattle.std.proofs.Common.{◌≡◌, ℕ, ◌+◌, ◌-◌, ◌≤◌, min, true, leb, List, ◌++◌, length, take, drop, refl, arith, length-drop, rules, leb-true}
-use Rattle.std.proofs.lemmas.List.{places, same_lists, drop-append-le, take-append-le}
+-- A span's part, as the folded text grows.
+use Rattle.std.proofs.Common.{◌≡◌, ℕ, ◌+◌, ◌≤◌, true, leb, List, ◌++◌, length, take, drop, refl, arith, length-drop, leb-true}
+use Rattle.std.proofs.lemmas.List.{drop-append-le, take-append-le}
 use Rattle.units.specs.Spans.{text_of, part_of, is_within}
 use Rattle.units.specs.declared.span.Text.{Text}
 use Rattle.units.specs.declared.span.Text.TheVariants.{Source, Folded}
 use Rattle.units.specs.declared.span.Span.{Span}
-
-pub clamped : (start len : ℕ) (t : List ℕ) → take (min (start + len) (length t) - min start (length t)) (drop (min start (length t)) t) ≡ take len (drop start t)
-clamped start len t = same_lists _ _ (search (rules, places)) (λ k d h. grind (arith, places))
 
 appended : (text : Text) (start len : ℕ) (source folded more : List ℕ) → leb (start + len) (text_of (length source) (length folded) text) ≡ true
     → take len (drop start (text_of source (folded ++ more) text)) ≡ take len (drop start (text_of source folded text))

@@ -1,3 +1,4 @@
 pub mod CodePoints
+pub mod CodePointsLeft
 pub mod Sinks
 pub mod Spans

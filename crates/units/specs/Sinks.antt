@@ -1,5 +1,5 @@
 -- An output that keeps what fits and counts everything.
-use Rattle.std.specs.Prelude.{ℕ, suc, ◌-◌, ◌^◌, min, List, [], ◌∷◌, slice_set}
+use Rattle.std.specs.Prelude.{◌≡◌, ℕ, suc, ◌-◌, ◌^◌, min, List, [], ◌∷◌, slice_set}
 use Rattle.std.specs.Borrow.{GName}
 use Rattle.units.specs.declared.sink.Sink.{Sink}
 
@@ -18,3 +18,8 @@ put_byte s b = (slice_set s.0 s.1 b, min (suc s.1) (2 ^ 64 - 1))
 abbrev pub put : List ℕ × ℕ → List ℕ → List ℕ × ℕ
 put s [] = s
 put s (b ∷ bs) = put (put_byte s b) bs
+
+-- from `old` to `new` these bytes were put, in the same output
+pub record Puts (old : Sink) (bytes : List ℕ) (new : Sink) : Type 0 where
+  pub state : state_of new ≡ put (state_of old) bytes
+  pub lent : lender_of new ≡ lender_of old

@@ -1,11 +1,19 @@
 ghost use Rattle.std.specs.Prelude.{◌≡◌, ◌≤◌, length, MatchOption};
-ghost use Rattle.units.specs.CodePoints.{is_lead, is_trail, PointAt};
+ghost use Rattle.std.specs.Iterator.{item_count};
+ghost use Rattle.units.specs.CodePoints.{is_lead, is_trail, code_points, PointAt};
+ghost use Rattle.units.specs.CodePointsLeft.{code_points_left, GivesCodePoint};
 
 // A code point, and how many units of the text spell it.
-#[derive(Clone, Copy)]
+#[derive(Clone, Copy, Debug, PartialEq, Eq)]
 pub struct CodePoint {
     pub value: u32,
     pub units: usize,
+}
+
+// The code points of a text, from the first that is not given yet.
+#[derive(Drop)]
+pub struct CodePoints<'a> {
+    rest: &'a [u16],
 }
 
 fn is_lead(unit: u16) -> bool
@@ -40,4 +48,25 @@ pub fn code_point_at(units: &[u16], at: usize) -> Option<CodePoint>
         value: u32::from(first),
         units: 1,
     })
+}
+
+// The code points of a text, in order.
+pub fn code_points(units: &[u16]) -> CodePoints<'_>
+    ensures { code_points_left result ≡ code_points units.now }
+{
+    CodePoints { rest: units }
+}
+
+impl<'a> Iterator for CodePoints<'a> {
+    type Item = u32;
+
+    ghost next_gives = { GivesCodePoint };
+
+    ghost remaining = { item_count code_points_left };
+
+    fn next(&mut self) -> Option<u32> {
+        let point = code_point_at(self.rest, 0)?;
+        self.rest = &self.rest[point.units..];
+        Some(point.value)
+    }
 }

@@ -1,9 +1,9 @@
 ghost use Rattle.std.specs.Prelude.{◌≡◌, ◌<◌, ◌≤◌, [], ◌∷◌};
 ghost use Rattle.std.proofs.Math.Utf8.{encode, encodes, next};
 ghost use Rattle.units.specs.CodePoints.{code_points};
-ghost use Rattle.units.specs.Sinks.{put, state_of, lender_of};
+ghost use Rattle.units.specs.Sinks.{state_of, lender_of, Puts};
 
-use crate::code_point::code_point_at;
+use crate::code_point::code_points;
 
 // An output that keeps what fits and counts everything that is put.
 #[derive(Drop)]
@@ -28,8 +28,7 @@ impl<'a> Sink<'a> {
     }
 
     pub fn byte(&mut self, b: u8)
-        ensures state { state_of self.new ≡ put (state_of self.old) (b ∷ []) }
-        ensures lent { lender_of self.new ≡ lender_of self.old }
+        ensures { Puts self.old (b ∷ []) self.new }
     {
         if self.len < self.out.len() {
             self.out[self.len] = b;
@@ -38,8 +37,7 @@ impl<'a> Sink<'a> {
     }
 
     pub fn bytes(&mut self, bs: &[u8])
-        ensures state { state_of self.new ≡ put (state_of self.old) bs.now }
-        ensures lent { lender_of self.new ≡ lender_of self.old }
+        ensures { Puts self.old bs.now self.new }
     {
         for b in bs {
             self.byte(*b);
@@ -48,9 +46,8 @@ impl<'a> Sink<'a> {
 
     // Puts the UTF-8 bytes of a code point, surrogates included, and nothing past the last code point.
     pub fn code_point(&mut self, c: u32)
-        ensures state { c < 0x110000 → state_of self.new ≡ put (state_of self.old) (encode c) }
-        ensures same { 0x110000 ≤ c → state_of self.new ≡ state_of self.old }
-        ensures lent { lender_of self.new ≡ lender_of self.old }
+        ensures encoded { c < 0x110000 → Puts self.old (encode c) self.new }
+        ensures nothing { 0x110000 ≤ c → Puts self.old [] self.new }
     {
         if c < 0x80 {
             self.byte(c as u8);
@@ -74,13 +71,10 @@ impl<'a> Sink<'a> {
 
     // Puts a text of 16-bit units as UTF-8.
     pub fn units(&mut self, us: &[u16])
-        ensures state { state_of self.new ≡ put (state_of self.old) (encodes (code_points us.now)) }
-        ensures lent { lender_of self.new ≡ lender_of self.old }
+        ensures { Puts self.old (encodes (code_points us.now)) self.new }
     {
-        let mut at = 0;
-        while let Some(point) = code_point_at(us, at) {
-            self.code_point(point.value);
-            at += point.units;
+        for point in code_points(us) {
+            self.code_point(point);
         }
     }
 }
