@@ -1,6 +1,6 @@
 ghost use Rattle.std.specs.Prelude.{◌≡◌, ℕ, List, Option, Float};
 ghost use Rattle.syntax.specs.Expr.{Expr};
-ghost use Rattle.units.specs.Sinks.{put, state_of, lender_of};
+ghost use Rattle.units.specs.Sinks.{Puts};
 ghost use Rattle.forms.specs.Form.{spell_number};
 ghost use Rattle.forms.specs.Parens.{shape};
 ghost use Rattle.forms.specs.Numerals.{Gives};
@@ -24,8 +24,7 @@ pub fn number_shape(x: f64) -> Shape
 
 // Puts a number by itself. `magnitude` is the number writer's text for the magnitude of a finite one.
 pub fn number(sink: &mut Sink, x: f64, magnitude: &[u8])
-    ensures state { (w : Float → Option (List ℕ)) → Gives w x magnitude.now → state_of sink.new ≡ put (state_of sink.old) (printed w (Expr.number x)) }
-    ensures lent { lender_of sink.new ≡ lender_of sink.old }
+    ensures { (w : Float → Option (List ℕ)) → Gives w x magnitude.now → Puts sink.old (printed w (Expr.number x)) sink.new }
 {
     if x.is_nan() {
         sink.bytes(b"NaN");

@@ -1,22 +1,19 @@
 ghost use Rattle.std.specs.Prelude.{◌≡◌, ◌<◌};
 ghost use Rattle.std.proofs.Math.Utf8.{encodes};
 ghost use Rattle.std.specs.Char.{digit_char};
-ghost use Rattle.units.specs.Sinks.{put, state_of, lender_of};
-ghost use Rattle.forms.specs.Quoted.{escape as escaped, hex_escape, quoted};
+ghost use Rattle.units.specs.Sinks.{Puts};
+ghost use Rattle.forms.specs.Quoted.{escape, hex_escape, quoted};
 
-use units::code_point::code_point_at;
+use units::code_point::code_points;
 use units::sink::Sink;
 
 // Puts the string literal of a text: between double quotes, with escapes.
 pub fn quote(sink: &mut Sink, text: &[u16])
-    ensures state { state_of sink.new ≡ put (state_of sink.old) (encodes (quoted text.now)) }
-    ensures lent { lender_of sink.new ≡ lender_of sink.old }
+    ensures { Puts sink.old (encodes (quoted text.now)) sink.new }
 {
     sink.byte(b'"');
-    let mut at = 0;
-    while let Some(point) = code_point_at(text, at) {
-        escape(sink, point.value);
-        at += point.units;
+    for point in code_points(text) {
+        escape(sink, point);
     }
     sink.byte(b'"');
 }
@@ -24,8 +21,7 @@ pub fn quote(sink: &mut Sink, text: &[u16])
 // Puts one code point of a literal. A surrogate comes here only where it is alone, and has no UTF-8.
 fn escape(sink: &mut Sink, c: u32)
     requires { c < 0x110000 }
-    ensures state { state_of sink.new ≡ put (state_of sink.old) (encodes (escaped c)) }
-    ensures lent { lender_of sink.new ≡ lender_of sink.old }
+    ensures { Puts sink.old (encodes (escape c)) sink.new }
 {
     match c {
         0x22 => sink.bytes(b"\\\""),
@@ -39,8 +35,7 @@ fn escape(sink: &mut Sink, c: u32)
 
 fn hex_escape(sink: &mut Sink, c: u32)
     requires { c < 0x10000 }
-    ensures state { state_of sink.new ≡ put (state_of sink.old) (hex_escape c) }
-    ensures lent { lender_of sink.new ≡ lender_of sink.old }
+    ensures { Puts sink.old (hex_escape c) sink.new }
 {
     sink.bytes(b"\\u");
     sink.bytes(&[
@@ -55,9 +50,5 @@ fn hex_digit(d: u32) -> u8
     requires { d < 0x10 }
     ensures { result ≡ digit_char d }
 {
-    if d < 10 {
-        b'0' + d as u8
-    } else {
-        b'a' + (d - 10) as u8
-    }
+    char::from_digit(d, 16).unwrap() as u8
 }

@@ -13,8 +13,8 @@ returns-then-is_infinite c =
     let yes-infinite = sym c.if-is_infinite.ensures.value in
     let sign = sym c.is_sign_negative-negative.ensures in
     elim c.if-negative.branch [
-      | then-negative v ↦ record { state = λ w g. let e = number_infinite w x true bytes yes-infinite (sign ∙ v.if-negative.true) g in search rules; lent = search rules }
-      | else-negative v ↦ record { state = λ w g. let e = number_infinite w x false bytes yes-infinite (sign ∙ v.if-negative.false) g in search rules; lent = search rules }
+      | then-negative v ↦ λ w g. let e = number_infinite w x true bytes yes-infinite (sign ∙ v.if-negative.true) g in search rules
+      | else-negative v ↦ λ w g. let e = number_infinite w x false bytes yes-infinite (sign ∙ v.if-negative.false) g in search rules
     ]
 
 pub returns : goal.returns
@@ -25,6 +25,6 @@ returns c =
     let no-infinite = sym c.if-is_infinite.ensures.value in
     let sign = sym c.is_sign_negative-negative.ensures in
     elim c.if-negative-2.branch [
-      | then-negative-2 v ↦ record { state = λ w g. let e = number_finite w x true bytes no_nan no-infinite (sign ∙ v.if-negative-2.true) g in search rules; lent = search rules }
-      | else-negative-2 v ↦ record { state = λ w g. let e = number_finite w x false bytes no_nan no-infinite (sign ∙ v.if-negative-2.false) g in search rules; lent = search rules }
+      | then-negative-2 v ↦ λ w g. let e = number_finite w x true bytes no_nan no-infinite (sign ∙ v.if-negative-2.true) g in search rules
+      | else-negative-2 v ↦ λ w g. let e = number_finite w x false bytes no_nan no-infinite (sign ∙ v.if-negative-2.false) g in search rules
     ]

@@ -8,4 +8,4 @@ pub loop-point-preserved : goal.loop-point-preserved
 loop-point-preserved c = puts_code_point c.loop-point.yielded c.in-Some.point c.loop-point.invariant (c.code_point.ensures.encoded c.in-Some.ensures.steps.1)
 
 pub returns : goal.returns
-returns c = puts_is c.loop-point.invariant (ap encodes (all_given _ c.loop-point.yielded _ _ (cc) c.loop-point.yielded_by c.in-None.ensures.steps.0.0))
+returns c = puts_is c.loop-point.invariant (ap encodes (all_given c.args.us.now _ c.loop-point.yielded _ (cc) c.loop-point.yielded_by c.in-None.ensures.steps.0.0))
