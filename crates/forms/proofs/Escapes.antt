@@ -1,11 +1,9 @@
 -- The bytes of a string literal.
-use Rattle.std.proofs.Common.{◌≡◌, ℕ, ◌/◌, ◌%◌, ◌<◌, ◌≤◌, List, [], ◌∷◌, ◌++◌, codes, sym, ap, ◌∙◌, append_assoc, append-nil, arith}
+use Rattle.std.proofs.Common.{◌≡◌, ℕ, List, [], ◌∷◌, ◌++◌, codes, sym, ap, ◌∙◌, append_assoc, append-nil}
 use lib.Utf8.{encode, encodes}
-use Rattle.std.specs.Char.{digit_char}
-use Rattle.std.proofs.lemmas.Str.{encode_ascii, encodes-append}
-use Rattle.std.proofs.lemmas.Bool.Decides.{nat_tests}
+use Rattle.std.proofs.lemmas.Str.{encodes-append}
 use Rattle.units.specs.CodePoints.{code_points}
-use Rattle.forms.specs.Quoted.{escape, escapes, hex_escape, quoted}
+use Rattle.forms.specs.Quoted.{escape, escapes, quoted}
 
 -- one more code point
 pub escapes-push : (cs : List ℕ) (c : ℕ) → encodes (escapes (cs ++ c ∷ [])) ≡ encodes (escapes cs) ++ encodes (escape c)

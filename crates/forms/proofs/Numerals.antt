@@ -1,5 +1,5 @@
 -- What is printed of a number, by what the tests of its kind say.
-use Rattle.std.proofs.Common.{◌≡◌, ℕ, Bool, true, false, cond, List, [], ◌++◌, codes, Option, sym, refl, ap, true≢false}
+use Rattle.std.proofs.Common.{◌≡◌, ℕ, Bool, true, false, cond, List, [], ◌++◌, codes, Option, refl, ap, true≢false}
 use mathlib.Core.Bool.{false≢true}
 use lib.Ieee.{Float, nan, inf, fin, is_nan}
 use lib.Utf8.{encode}
@@ -25,12 +25,19 @@ shape_infinite nan t = absurd (false≢true t)
 shape_infinite (inf s) t = refl
 shape_infinite (fin s m e) t = absurd (false≢true t)
 
-pub shape_finite : (x : Float) (s : Bool) → is_nan x ≡ false → float_is_infinite x ≡ false → is_sign_negative x ≡ s → cond s Loose Numeral ≡ shape (spell_number x)
+pub shape_negative : (x : Float) → is_nan x ≡ false → float_is_infinite x ≡ false → is_sign_negative x ≡ true → Loose ≡ shape (spell_number x)
 unfolding is_nan float_is_infinite is_sign_negative
-shape_finite nan s t f n = absurd (true≢false t)
-shape_finite (inf s) u t f n = absurd (true≢false f)
-shape_finite (fin true m e) s t f n = ap (λ b. cond b Loose Numeral) (sym n)
-shape_finite (fin false m e) s t f n = ap (λ b. cond b Loose Numeral) (sym n)
+shape_negative nan t f n = absurd (true≢false t)
+shape_negative (inf s) t f n = refl
+shape_negative (fin true m e) t f n = refl
+shape_negative (fin false m e) t f n = absurd (false≢true n)
+
+pub shape_positive : (x : Float) → is_nan x ≡ false → float_is_infinite x ≡ false → is_sign_negative x ≡ false → Numeral ≡ shape (spell_number x)
+unfolding is_nan float_is_infinite is_sign_negative
+shape_positive nan t f n = absurd (true≢false t)
+shape_positive (inf s) t f n = absurd (true≢false f)
+shape_positive (fin true m e) t f n = absurd (true≢false n)
+shape_positive (fin false m e) t f n = refl
 
 -- ---- its bytes
 
@@ -54,3 +61,7 @@ module _ (w : Float → Option (List ℕ)) where
   number_finite (inf u) s bytes t f n g = absurd (true≢false f)
   number_finite (fin true m e) s bytes t f n g = rw (← n) (ap (λ r. codes "-" ++ r) g)
   number_finite (fin false m e) s bytes t f n g = rw (← n) g
+
+pub ruleset shapes = (shape_nan, shape_infinite, shape_negative, shape_positive)
+
+pub ruleset texts = (number_nan, number_infinite, number_finite)

@@ -10,6 +10,7 @@ use crate::parens::Shape;
 use units::sink::Sink;
 
 // The shape of a number that is spelled out.
+#[tactic(auto, using(crate::proofs::Numerals::shapes))]
 pub fn number_shape(x: f64) -> Shape
     ensures { result ≡ shape (spell_number x) }
 {
@@ -23,6 +24,7 @@ pub fn number_shape(x: f64) -> Shape
 }
 
 // Puts a number by itself. `magnitude` is the number writer's text for the magnitude of a finite one.
+#[tactic(auto, using(crate::proofs::Numerals::texts))]
 pub fn number(sink: &mut Sink, x: f64, magnitude: &[u8])
     ensures { (w : Float → Option (List ℕ)) → Gives w x magnitude.now → Puts sink.old (printed w (Expr.number x)) sink.new }
 {

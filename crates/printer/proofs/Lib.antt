@@ -1,3 +1,4 @@
-pub mod Texts
+pub mod Operators
 pub mod Reading
 pub mod Rows
+pub mod Texts

@@ -1,2 +1,4 @@
+pub mod Numbers
 pub mod Views
+pub mod Shapes
 pub mod Fitted

@@ -3,6 +3,7 @@
 pub mod node;
 mod number;
 pub mod print;
-mod read;
+mod row;
+mod shape;
 mod sign;
 pub mod view;

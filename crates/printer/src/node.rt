@@ -1,11 +1,13 @@
-ghost use Rattle.std.specs.Prelude.{◌≡◌, ◌<◌};
-ghost use Rattle.units.specs.Sinks.{put, state_of, lender_of};
+ghost use Rattle.std.specs.Prelude.{◌<◌, length};
+ghost use Rattle.units.specs.Sinks.{Puts};
 ghost use Rattle.syntax.specs.Expr.{Expr};
 ghost use Rattle.syntax.specs.Operators.{unary_of, binary_of};
-ghost use Rattle.nodes.specs.Meaning.{units_of, row_of, exprs_of, parts_of, unary_by, binary_by};
-ghost use Rattle.forms.specs.Printed.{printed, printed_at, printed_further};
-ghost use Rattle.printer.specs.Views.{texts_of, expr_in, parts_in, WellFormed, InUse};
+ghost use Rattle.nodes.specs.Meaning.{units_of, row_of, nums, exprs_of, parts_of, unary_by, binary_by};
+ghost use Rattle.forms.specs.Printed.{printed, printed_at, printed_arguments, printed_further};
+ghost use Rattle.printer.specs.Views.{texts_of, expr_in, meaning_in, parts_in, kids_in, InUse};
 
+use crate::row::RowParts;
+use crate::shape::shape_of;
 use crate::sign::{binary_text, dot, mark, truth, unary_text};
 use crate::view::View;
 use forms::parens::Place;
@@ -18,34 +20,31 @@ use writer::NumberWriter;
 
 impl<W: NumberWriter> View<'_, W> {
     // Puts the text of the node n as it stands at that place, in parentheses or not.
-    #[cycle(bare_binary_call_further_index_node_template_unary)]
+    #[cycle(printing)]
     pub fn node(&self, sink: &mut Sink, n: u16, place: Place)
-        requires tree { WellFormed self.now }
-        requires node { n < self.now.used }
-        ensures state { state_of sink.new ≡ put (state_of sink.old) (printed_at W.NumberWriter.text place (expr_in self.now n)) }
-        ensures lent { lender_of sink.new ≡ lender_of sink.old }
+        requires { n < length self.now.entries.now }
+        ensures { Puts sink.old (printed_at W.NumberWriter.text place (expr_in self.now n)) sink.new }
     {
-        if place.parenthesises(self.shape(n)) {
+        let kind = self.entries[n as usize].kind;
+        if place.parenthesises(shape_of(kind)) {
             sink.byte(b'(');
-            self.bare(sink, n);
+            self.bare(sink, kind);
             sink.byte(b')');
         } else {
-            self.bare(sink, n);
+            self.bare(sink, kind);
         }
     }
 
-    // Puts the text of the node n by itself.
-    #[cycle(bare_binary_call_further_index_node_template_unary)]
-    fn bare(&self, sink: &mut Sink, n: u16)
-        requires tree { WellFormed self.now }
-        requires node { n < self.now.used }
-        ensures state { state_of sink.new ≡ put (state_of sink.old) (printed W.NumberWriter.text (expr_in self.now n)) }
-        ensures lent { lender_of sink.new ≡ lender_of sink.old }
+    // Puts the text of a node of this kind by itself.
+    #[cycle(printing)]
+    fn bare(&self, sink: &mut Sink, kind: Kind)
+        requires { InUse self.now (kids_in self.now kind) }
+        ensures { Puts sink.old (printed W.NumberWriter.text (meaning_in self.now kind)) sink.new }
     {
-        match self.entry(n).kind {
+        match kind {
             Kind::Null => sink.bytes(b"null"),
             Kind::Number(x) => self.number(sink, x),
-            Kind::String(text) => quote(sink, self.units(text)),
+            Kind::String(text) => quote(sink, self.texts.part(text)),
             Kind::Boolean(b) => sink.bytes(truth(b)),
             Kind::Name(i) => sink.units(self.names.text(i as usize)),
             Kind::EmptyArray => sink.bytes(b"[]"),
@@ -59,7 +58,7 @@ impl<W: NumberWriter> View<'_, W> {
             } => {
                 self.node(sink, object, Place::Object);
                 sink.bytes(dot(optional));
-                sink.units(self.units(name));
+                sink.units(self.texts.part(name));
             }
             Kind::Index {
                 object,
@@ -74,18 +73,16 @@ impl<W: NumberWriter> View<'_, W> {
             Kind::Chain(a) => self.node(sink, a, Place::Operand),
             Kind::Sequence { first, rest } => {
                 self.node(sink, first, Place::Operand);
-                self.further(sink, rest, Place::Operand);
+                self.further(sink, self.parts(rest), Place::Operand);
             }
         }
     }
 
     // No tree holds an operator without a text.
-    #[cycle(bare_binary_call_further_index_node_template_unary)]
+    #[cycle(printing)]
     fn unary(&self, sink: &mut Sink, operator: UnaryOperator, operand: u16)
-        requires tree { WellFormed self.now }
-        requires operand { operand < self.now.used }
-        ensures state { state_of sink.new ≡ put (state_of sink.old) (printed W.NumberWriter.text (unary_by (unary_of operator) (expr_in self.now operand))) }
-        ensures lent { lender_of sink.new ≡ lender_of sink.old }
+        requires { operand < length self.now.entries.now }
+        ensures { Puts sink.old (printed W.NumberWriter.text (unary_by (unary_of operator) (expr_in self.now operand))) sink.new }
     {
         match unary_text(operator) {
             Some(text) => {
@@ -96,13 +93,11 @@ impl<W: NumberWriter> View<'_, W> {
         }
     }
 
-    #[cycle(bare_binary_call_further_index_node_template_unary)]
+    #[cycle(printing)]
     fn binary(&self, sink: &mut Sink, operator: BinaryOperator, left: u16, right: u16)
-        requires tree { WellFormed self.now }
-        requires left { left < self.now.used }
-        requires right { right < self.now.used }
-        ensures state { state_of sink.new ≡ put (state_of sink.old) (printed W.NumberWriter.text (binary_by (binary_of operator) (expr_in self.now left) (expr_in self.now right))) }
-        ensures lent { lender_of sink.new ≡ lender_of sink.old }
+        requires left { left < length self.now.entries.now }
+        requires right { right < length self.now.entries.now }
+        ensures { Puts sink.old (printed W.NumberWriter.text (binary_by (binary_of operator) (expr_in self.now left) (expr_in self.now right))) sink.new }
     {
         match binary_text(operator) {
             Some(text) => {
@@ -114,13 +109,11 @@ impl<W: NumberWriter> View<'_, W> {
         }
     }
 
-    #[cycle(bare_binary_call_further_index_node_template_unary)]
+    #[cycle(printing)]
     fn index(&self, sink: &mut Sink, object: u16, key: u16, optional: bool)
-        requires tree { WellFormed self.now }
-        requires object { object < self.now.used }
-        requires key { key < self.now.used }
-        ensures state { state_of sink.new ≡ put (state_of sink.old) (printed W.NumberWriter.text (Expr.index optional (expr_in self.now object) (expr_in self.now key))) }
-        ensures lent { lender_of sink.new ≡ lender_of sink.old }
+        requires object { object < length self.now.entries.now }
+        requires key { key < length self.now.entries.now }
+        ensures { Puts sink.old (printed W.NumberWriter.text (Expr.index optional (expr_in self.now object) (expr_in self.now key))) sink.new }
     {
         self.node(sink, object, Place::Object);
         sink.bytes(mark(optional));
@@ -129,61 +122,55 @@ impl<W: NumberWriter> View<'_, W> {
         sink.byte(b']');
     }
 
-    #[cycle(bare_binary_call_further_index_node_template_unary)]
+    #[cycle(printing)]
     fn call(&self, sink: &mut Sink, callee: u16, arguments: Row, optional: bool)
-        requires tree { WellFormed self.now }
-        requires callee { callee < self.now.used }
-        requires arguments { InUse self.now arguments }
-        ensures state { state_of sink.new ≡ put (state_of sink.old) (printed W.NumberWriter.text (Expr.call optional (expr_in self.now callee) (exprs_of (expr_in self.now) (parts_in self.now arguments)))) }
-        ensures lent { lender_of sink.new ≡ lender_of sink.old }
+        requires callee { callee < length self.now.entries.now }
+        requires arguments { InUse self.now (parts_in self.now arguments) }
+        ensures { Puts sink.old (printed W.NumberWriter.text (Expr.call optional (expr_in self.now callee) (exprs_of (expr_in self.now) (parts_in self.now arguments)))) sink.new }
     {
         self.node(sink, callee, Place::Operand);
         sink.bytes(mark(optional));
         sink.byte(b'(');
-        if arguments.count > 0 {
-            self.node(sink, arguments.first, Place::Argument);
-            let rest = Row {
-                first: self.entry(arguments.first).next,
-                count: arguments.count - 1,
-            };
-            self.further(sink, rest, Place::Argument);
-        }
+        self.arguments(sink, self.parts(arguments));
         sink.byte(b')');
     }
 
-    // Puts the parts of a row, each with a comma before it.
-    #[cycle(bare_binary_call_further_index_node_template_unary)]
-    fn further(&self, sink: &mut Sink, row: Row, place: Place)
-        requires tree { WellFormed self.now }
-        requires row { InUse self.now row }
-        ensures state { state_of sink.new ≡ put (state_of sink.old) (printed_further W.NumberWriter.text place (exprs_of (expr_in self.now) (parts_in self.now row))) }
-        ensures lent { lender_of sink.new ≡ lender_of sink.old }
+    // Puts the arguments of a call, with commas between them.
+    #[cycle(printing)]
+    fn arguments(&self, sink: &mut Sink, mut parts: RowParts<'_>)
+        requires { InUse self.now (nums parts) }
+        ensures { Puts sink.old (printed_arguments W.NumberWriter.text (exprs_of (expr_in self.now) (nums parts.entry))) sink.new }
     {
-        let mut part = row.first;
-        for i in 0..row.count {
-            sink.byte(b',');
-            self.node(sink, part, place);
-            part = self.entry(part).next;
+        if let Some((first, _)) = parts.next() {
+            self.node(sink, first, Place::Argument);
+            self.further(sink, parts, Place::Argument);
         }
     }
 
-    #[cycle(bare_binary_call_further_index_node_template_unary)]
+    // Puts each of the parts with a comma before it.
+    #[cycle(printing)]
+    fn further(&self, sink: &mut Sink, parts: RowParts<'_>, place: Place)
+        requires { InUse self.now (nums parts) }
+        ensures { Puts sink.old (printed_further W.NumberWriter.text place (exprs_of (expr_in self.now) (nums parts.entry))) sink.new }
+    {
+        for (part, _) in parts {
+            sink.byte(b',');
+            self.node(sink, part, place);
+        }
+    }
+
+    #[cycle(printing)]
     fn template(&self, sink: &mut Sink, head: Span, parts: Row)
-        requires tree { WellFormed self.now }
-        requires parts { InUse self.now parts }
-        ensures state { state_of sink.new ≡ put (state_of sink.old) (printed W.NumberWriter.text (Expr.template (units_of (texts_of self.now) head) (parts_of (texts_of self.now) (expr_in self.now) (row_of self.now.entries.now parts)))) }
-        ensures lent { lender_of sink.new ≡ lender_of sink.old }
+        requires { InUse self.now (parts_in self.now parts) }
+        ensures { Puts sink.old (printed W.NumberWriter.text (Expr.template (units_of (texts_of self.now) head) (parts_of (texts_of self.now) (expr_in self.now) (row_of self.now.entries.now parts)))) sink.new }
     {
         sink.byte(b'`');
-        sink.units(self.units(head));
-        let mut part = parts.first;
-        for i in 0..parts.count {
+        sink.units(self.texts.part(head));
+        for (part, after) in self.parts(parts) {
             sink.bytes(b"${");
             self.node(sink, part, Place::Bare);
             sink.byte(b'}');
-            let entry = self.entry(part);
-            sink.units(self.units(entry.after));
-            part = entry.next;
+            sink.units(self.texts.part(after));
         }
         sink.byte(b'`');
     }

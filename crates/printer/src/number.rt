@@ -1,7 +1,6 @@
-ghost use Rattle.std.specs.Prelude.{◌≡◌};
 ghost use Rattle.forms.specs.Printed.{printed};
 ghost use Rattle.syntax.specs.Expr.{Expr};
-ghost use Rattle.units.specs.Sinks.{put, state_of, lender_of};
+ghost use Rattle.units.specs.Sinks.{Puts};
 
 use crate::view::View;
 use forms::numeral::number;
@@ -11,8 +10,7 @@ use writer::NumberWriter;
 impl<W: NumberWriter> View<'_, W> {
     // Puts a number by itself. Where the writer has no text for its magnitude, nothing stands for that.
     pub(crate) fn number(&self, sink: &mut Sink, x: f64)
-        ensures state { state_of sink.new ≡ put (state_of sink.old) (printed W.NumberWriter.text (Expr.number x)) }
-        ensures lent { lender_of sink.new ≡ lender_of sink.old }
+        ensures { Puts sink.old (printed W.NumberWriter.text (Expr.number x)) sink.new }
     {
         match self.writer.write(x.abs()) {
             Some(text) => number(sink, x, text.as_str().as_bytes()),

@@ -1,7 +1,7 @@
-ghost use Rattle.std.specs.Prelude.{◌<◌};
+ghost use Rattle.std.specs.Prelude.{◌<◌, length};
 ghost use Rattle.printer.specs.Fitted.{Fitted};
 ghost use Rattle.forms.specs.Printed.{printed};
-ghost use Rattle.printer.specs.Views.{expr_in, WellFormed};
+ghost use Rattle.printer.specs.Views.{expr_in};
 
 use crate::view::View;
 use forms::parens::Place;
@@ -12,8 +12,7 @@ impl<W: NumberWriter> View<'_, W> {
     // Puts the whole text of the node n at the front of `out`, and tells its length; None, and `out` as it
     // was, where that is shorter. The first pass only counts.
     pub fn print(&self, n: u16, out: &mut [u8]) -> Option<usize>
-        requires tree { WellFormed self.now }
-        requires node { n < self.now.used }
+        requires { n < length self.now.entries.now }
         ensures { Fitted (printed W.NumberWriter.text (expr_in self.now n)) out.old result out.new }
     {
         let mut nothing: [u8; 0] = [];

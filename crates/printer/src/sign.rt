@@ -1,7 +1,7 @@
 ghost use Rattle.std.specs.Prelude.{◌≡◌};
 ghost use Rattle.std.specs.Option.{option_map};
 ghost use Rattle.syntax.specs.Operators.{unary_of, binary_of, bin_text};
-ghost use Rattle.forms.specs.Show.{prefixed, truth as Truth, dot as Dot, mark as Mark};
+ghost use Rattle.forms.specs.Show.{prefixed, truth, dot, mark};
 
 use syntax::operators::{BinaryOperator, UnaryOperator};
 
@@ -28,21 +28,21 @@ pub(crate) fn binary_text(operator: BinaryOperator) -> Option<&'static [u8]>
 }
 
 pub(crate) fn truth(b: bool) -> &'static [u8]
-    ensures { result.now ≡ Truth b }
+    ensures { result.now ≡ truth b }
 {
     if b { b"true" } else { b"false" }
 }
 
 // What stands before a member's name.
 pub(crate) fn dot(optional: bool) -> &'static [u8]
-    ensures { result.now ≡ Dot optional }
+    ensures { result.now ≡ dot optional }
 {
     if optional { b"?." } else { b"." }
 }
 
 // What stands before the bracket of an index or a call.
 pub(crate) fn mark(optional: bool) -> &'static [u8]
-    ensures { result.now ≡ Mark optional }
+    ensures { result.now ≡ mark optional }
 {
     if optional { b"?." } else { b"" }
 }

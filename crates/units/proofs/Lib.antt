@@ -1,3 +1,4 @@
 pub mod CodePoints
+pub mod Encodings
 pub mod Sinks
 pub mod Spans

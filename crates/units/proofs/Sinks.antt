@@ -5,6 +5,7 @@ use Rattle.std.proofs.lemmas.List.Edits.{sets, sets-eq}
 use Rattle.std.proofs.lemmas.Str.{encodes-append}
 use lib.Utf8.{encode, encodes}
 use Rattle.units.specs.declared.sink.Sink.{Sink}
+use Rattle.units.specs.CodePoints.{code_points}
 use Rattle.units.specs.Sinks.{state_of, put, put_byte, Puts}
 
 pub put-append : (s : List ℕ × ℕ) (xs ys : List ℕ) → put (put s xs) ys ≡ put s (xs ++ ys)
@@ -14,20 +15,29 @@ put-append s (x ∷ xs) ys = put-append (put_byte s x) xs ys
 -- ---- what a sink has put
 
 -- one step after another
-pub puts_then : {s t u : Sink} {xs ys : List ℕ} → Puts s xs t → Puts t ys u → Puts s (xs ++ ys) u
-puts_then {s} {t} {u} {xs} {ys} p q =
+infixl 20 ◌⨾◌
+
+pub ◌⨾◌ : {s t u : Sink} {xs ys : List ℕ} → Puts s xs t → Puts t ys u → Puts s (xs ++ ys) u
+◌⨾◌ {s} {t} {u} {xs} {ys} p q =
     record { state = q.state ∙ ap (λ r. put r ys) p.state ∙ put-append (state_of s) xs ys; lent = q.lent ∙ p.lent }
+
+pub puts_none : (s : Sink) → Puts s [] s
+puts_none s = record { state = refl; lent = refl }
 
 -- other bytes that are the same
 pub puts_is : {s t : Sink} {xs ys : List ℕ} → Puts s xs t → xs ≡ ys → Puts s ys t
 puts_is {s} {t} p e = subst (λ zs. Puts s zs t) e p
 
+-- the units of a text, which is another that is the same
+pub puts_units : {s t : Sink} {us vs : List ℕ} → Puts s (encodes (code_points us)) t → us ≡ vs → Puts s (encodes (code_points vs)) t
+puts_units p e = puts_is p (ap (λ ws. encodes (code_points ws)) e)
+
 -- a byte of a list, or a code point of a text, after those before it
 pub puts_byte : {s t u : Sink} (bs : List ℕ) (i : ℕ) → i < length bs → Puts s (take i bs) t → Puts t (get_or bs i 0 ∷ []) u → Puts s (take (i + 1) bs) u
-puts_byte bs i h p q = puts_is (puts_then p q) (sym (take_more bs i 0 h))
+puts_byte bs i h p q = puts_is (p ⨾ q) (sym (take_more bs i 0 h))
 
 pub puts_code_point : {s t u : Sink} (cs : List ℕ) (c : ℕ) → Puts s (encodes cs) t → Puts t (encode c) u → Puts s (encodes (cs ++ c ∷ [])) u
-puts_code_point cs c p q = puts_is (puts_then p q) (sym (encodes-append cs (c ∷ []) ∙ ap (λ r. encodes cs ++ r) (append-nil (encode c))))
+puts_code_point cs c p q = puts_is (p ⨾ q) (sym (encodes-append cs (c ∷ []) ∙ ap (λ r. encodes cs ++ r) (append-nil (encode c))))
 
 -- ---- how many bytes, and where they stand
 

@@ -45,6 +45,7 @@ impl<'a> Sink<'a> {
     }
 
     // Puts the UTF-8 bytes of a code point, surrogates included, and nothing past the last code point.
+    #[tactic(auto, using(crate::proofs::Encodings::encodings))]
     pub fn code_point(&mut self, c: u32)
         ensures encoded { c < 0x110000 → Puts self.old (encode c) self.new }
         ensures nothing { 0x110000 ≤ c → Puts self.old [] self.new }

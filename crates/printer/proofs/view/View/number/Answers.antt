@@ -1,4 +1,4 @@
-use Rattle.std.proofs.Common.{Some, None, subst, rules}
+use Rattle.std.proofs.Common.{Some, None, subst}
 use lib.Ieee.{Float}
 use Rattle.writer.specs.Writers.{Wrote}
 use Rattle.printer.proofs.Texts.{gives}
@@ -9,13 +9,11 @@ returns-in-Some g c =
     let w = g.W.NumberWriter.text in
     let laws = g.met.W.NumberWriter in
     let h = subst (λ (y : Float). Wrote (w y) (Some c.in-Some.text)) c.abs.ensures.value c.in-Some.ensures in
-    let q = gives w laws.zero laws.one laws.exact c.args.x (Some c.in-Some.text) h in
-    record { state = c.number.ensures.state w (rw (c.as_bytes.ensures.value, c.as_str.ensures.value) q); lent = search rules }
+    c.number.ensures w (rw (c.as_bytes.ensures.value, c.as_str.ensures.value) (gives w laws.zero laws.one laws.exact c.args.x (Some c.in-Some.text) h))
 
 pub returns-in-None : goal.returns-in-None
 returns-in-None g c =
     let w = g.W.NumberWriter.text in
     let laws = g.met.W.NumberWriter in
     let h = subst (λ (y : Float). Wrote (w y) None) c.abs.ensures.value c.in-None.ensures in
-    let q = gives w laws.zero laws.one laws.exact c.args.x None h in
-    record { state = c.number-in-None.ensures.state w q; lent = search rules }
+    c.number-in-None.ensures w (gives w laws.zero laws.one laws.exact c.args.x None h)
