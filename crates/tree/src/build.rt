@@ -10,7 +10,7 @@ use nodes::count::count_fits;
 use nodes::put::{kind_of, put};
 use nodes::shape::{Part, Shape};
 use template::is_raw_part;
-use units::span::{Span, Text, part, within};
+use units::span::Span;
 use words::text::is_identifier;
 
 // The height of a level: folds may put a deeper expression in a node's place.
@@ -22,16 +22,13 @@ impl Store {
     fn in_source(&self, span: Span) -> bool
         ensures { MatchBool result (InSource (state_of self.now) span) (Not (InSource (state_of self.now) span)) }
     {
-        match span.text {
-            Text::Source => within(span, self.source.len(), self.folded.len()),
-            Text::Folded => false,
-        }
+        span.lies_in_source(self.source.len())
     }
 
     fn is_raw(&self, span: Span) -> bool
         ensures { MatchBool result (RawPart (state_of self.now) span) (Not (RawPart (state_of self.now) span)) }
     {
-        self.in_source(span) && is_raw_part(part(&self.source, &self.folded, span))
+        self.in_source(span) && is_raw_part(self.texts().part(span))
     }
 
     // Whether the raw text after each part is one.
@@ -59,7 +56,7 @@ impl Store {
             Shape::String(span) => self.in_source(span),
             Shape::Template(span) => self.is_raw(span),
             Shape::Member { name, .. } => self.in_source(name)
-                && is_identifier(part(&self.source, &self.folded, name)),
+                && is_identifier(self.texts().part(name)),
             _ => true,
         }
     }

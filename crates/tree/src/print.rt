@@ -15,10 +15,8 @@ impl<W: NumberWriter + Drop> Tree<W> {
         let root = self.store.root.ok_or(Refusal::WrongTime)?;
         let view = View {
             entries: &self.store.entries,
-            used: self.store.entries.len(),
             names: &self.store.names,
-            source: &self.store.source,
-            folded: &self.store.folded,
+            texts: self.store.texts(),
             writer: &self.writer,
         };
         view.print(root, out).ok_or(Refusal::ShortOutput)

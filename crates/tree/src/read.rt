@@ -7,7 +7,6 @@ ghost use Rattle.tree.specs.Of.{state_of};
 use crate::refusal::Refusal;
 use crate::store::Store;
 use nodes::kind::Kind;
-use units::span::part;
 
 impl Store {
     // The units of a string node, from whichever text holds them.
@@ -18,7 +17,7 @@ impl Store {
             return Err(Refusal::NoSuchNode);
         }
         match self.entry(n).kind {
-            Kind::String(span) => Ok(part(&self.source, &self.folded, span)),
+            Kind::String(span) => Ok(self.texts().part(span)),
             _ => Err(Refusal::NoSuchNode),
         }
     }

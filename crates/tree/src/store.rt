@@ -6,6 +6,7 @@ ghost use Rattle.tree.specs.State.{Fitting, Levelled, Rooted};
 use crate::refusal::Refusal;
 use names::table::Names;
 use nodes::kind::Entry;
+use units::span::Texts;
 
 // A tree without its writer. Its memory is all taken when it is opened.
 #[derive(Drop)]
@@ -31,6 +32,16 @@ pub(crate) struct Store {
 }
 
 impl Store {
+    pub(crate) fn texts(&self) -> Texts<'_>
+        ensures source { result.source.now ≡ self.now.source.items }
+        ensures folded { result.folded.now ≡ self.now.folded.items }
+    {
+        Texts {
+            source: &self.source,
+            folded: &self.folded,
+        }
+    }
+
     // Refuses what may not be asked once the root is named.
     pub(crate) fn check_unrooted(&self) -> Result<(), Refusal>
         ensures ok { OnOk result (self.now.root ≡ None) }
