@@ -3,7 +3,6 @@ use Rattle.std.specs.Prelude.{vec_items}
 use Rattle.names.specs.Table.{texts, classes}
 use Rattle.nodes.specs.Meaning.{Texts}
 use Rattle.tree.specs.declared.store.Store.{Store}
-use Rattle.tree.specs.declared.tree.Tree.{Tree}
 use Rattle.tree.specs.State.{State}
 
 abbrev pub texts_of : Store → Texts
@@ -11,7 +10,3 @@ texts_of s = record { names = texts s.names; source = vec_items s.source; folded
 
 abbrev pub state_of : Store → State
 state_of s = record { entries = vec_items s.entries; capacity = s.capacity; texts = texts_of s; classes = classes s.names; root = s.root; room = s.room }
-
--- what a tree holds
-abbrev pub tree_state : {W : Type 0} → Tree W → State
-tree_state t = state_of t.store

@@ -2,7 +2,6 @@ ghost use Rattle.std.specs.Prelude.{◌≡◌, MatchResult};
 ghost use Rattle.syntax.specs.Expr.{Expr};
 ghost use Rattle.tree.specs.Calls.{is_written, Opened, OpenRefused, Named, NameRefused, Built, BuildRefused, RootNamed, RootRefused, ReadRefused};
 ghost use Rattle.tree.specs.State.{Present, stands_for};
-ghost use Rattle.tree.specs.Of.{tree_state};
 
 use crate::refusal::{OpenError, Refusal};
 use crate::store::Store;
@@ -21,7 +20,7 @@ impl<W: NumberWriter + Drop> Tree<W> {
         source: &[u16],
         writer: W,
     ) -> Result<Tree<W>, OpenError>
-        ensures { MatchResult result (λ t. Opened entries folded source.now (tree_state t)) (λ e. OpenRefused entries folded source.now e) }
+        ensures { MatchResult result (λ t. Opened entries folded source.now t) (λ e. OpenRefused entries folded source.now e) }
     {
         let store = Store::open(heap, entries, folded, source)?;
         Ok(Tree { store, writer })
@@ -29,7 +28,7 @@ impl<W: NumberWriter + Drop> Tree<W> {
 
     // Lists a name, and says what it is; the answer is its index.
     pub fn name(&mut self, text: &[u16], class: Class) -> Result<u16, Refusal>
-        ensures { MatchResult result (λ i. Named (tree_state self.old) text.now class i (tree_state self.new)) (λ e. NameRefused (tree_state self.old) text.now class e × (tree_state self.new ≡ tree_state self.old)) }
+        ensures { MatchResult result (λ i. Named self.old text.now class i self.new) (λ e. NameRefused self.old text.now class e × (self.new ≡ self.old)) }
     {
         self.store.name(text, class)
     }
@@ -46,7 +45,7 @@ impl<W: NumberWriter + Drop> Tree<W> {
 
     // A new node over nodes that have no parent yet; it has the next number.
     pub fn build(&mut self, shape: Shape, parts: &[Part]) -> Result<u16, Refusal>
-        ensures { MatchResult result (λ n. Built (is_written W.NumberWriter.text shape) (tree_state self.old) shape parts.now n (tree_state self.new)) (λ e. BuildRefused (is_written W.NumberWriter.text shape) (tree_state self.old) shape parts.now e × (tree_state self.new ≡ tree_state self.old)) }
+        ensures { MatchResult result (λ n. Built (is_written W.NumberWriter.text shape) self.old shape parts.now n self.new) (λ e. BuildRefused (is_written W.NumberWriter.text shape) self.old shape parts.now e × (self.new ≡ self.old)) }
     {
         let written = self.is_written(shape);
         self.store.build(shape, parts, written)
@@ -54,14 +53,14 @@ impl<W: NumberWriter + Drop> Tree<W> {
 
     // Names the root: the tree is what stands below it.
     pub fn root(&mut self, n: u16) -> Result<(), Refusal>
-        ensures { MatchResult result (λ _. RootNamed (tree_state self.old) n (tree_state self.new)) (λ e. RootRefused (tree_state self.old) n e × (tree_state self.new ≡ tree_state self.old)) }
+        ensures { MatchResult result (λ _. RootNamed self.old n self.new) (λ e. RootRefused self.old n e × (self.new ≡ self.old)) }
     {
         self.store.root(n)
     }
 
     // The units of a string node, from whichever text holds them.
     pub fn read(&self, n: u16) -> Result<&[u16], Refusal>
-        ensures { MatchResult result (λ s. Present (tree_state self.now) n × (stands_for (tree_state self.now) n ≡ Expr.string s.now)) (λ e. ReadRefused (tree_state self.now) n e) }
+        ensures { MatchResult result (λ s. Present self.now n × (stands_for self.now n ≡ Expr.string s.now)) (λ e. ReadRefused self.now n e) }
     {
         self.store.read(n)
     }

@@ -1,6 +1,5 @@
 ghost use Rattle.std.specs.Prelude.{◌≡◌, MatchResult};
 ghost use Rattle.tree.specs.Calls.{PrintRefused, PrintedTo};
-ghost use Rattle.tree.specs.Of.{tree_state};
 
 use crate::refusal::Refusal;
 use crate::tree::Tree;
@@ -10,7 +9,7 @@ use writer::NumberWriter;
 impl<W: NumberWriter + Drop> Tree<W> {
     // Writes the tree's text to the front of `out`, and tells its length in bytes.
     pub fn print(&self, out: &mut [u8]) -> Result<usize, Refusal>
-        ensures { MatchResult result (λ n. PrintedTo W.NumberWriter.text (tree_state self.now) out.old n out.new) (λ e. PrintRefused W.NumberWriter.text (tree_state self.now) out.old e × (out.new ≡ out.old)) }
+        ensures { MatchResult result (λ n. PrintedTo W.NumberWriter.text self.now out.old n out.new) (λ e. PrintRefused W.NumberWriter.text self.now out.old e × (out.new ≡ out.old)) }
     {
         let root = self.store.root.ok_or(Refusal::WrongTime)?;
         let view = View {
