@@ -1,11 +1,12 @@
 -- Powers of ten up to 10 ^ 22 are floats exactly, and a float is compared with them. Assumes nothing.
-use Rattle.std.proofs.Common.{◌≡◌, ℕ, zero, suc, ◌+◌, ◌*◌, ◌^◌, ◌<◌, ◌≤◌, Bool, true, false, cond, leb, ℤ, pos, sym, refl, ap, ◌∙◌, le_trans, lt_of_lt_of_le, lt_of_le_of_lt, add-zero, mul_assoc, div-lt_iff_lt-mul, suc-add, pow-suc, le-div_iff_mul-le, zero-add, mul-one, add-one, arith, lit<, lit≤, pow_mono, pow-add, shl_lt}
+use Rattle.std.proofs.Common.{◌≡◌, ℕ, zero, suc, ◌+◌, ◌*◌, ◌^◌, ◌<◌, ◌≤◌, Bool, true, false, cond, leb, List, [], ◌∷◌, ◌++◌, ℤ, pos, sym, refl, ap, ◌∙◌, le_trans, lt_of_lt_of_le, lt_of_le_of_lt, add-zero, mul_assoc, div-lt_iff_lt-mul, pow-suc, le-div_iff_mul-le, mul-one, add-one, arith, lit<, lit≤, pow_mono, pow-add, shl_lt}
 use native.Mathlib.Nat.{mul-mul-mul_comm, pow-le-pow_right}
-use lib.Ieee.{Float, fin, binary64, round, of_int, of_bits, mul, le}
+use lib.Ieee.{Float, fin, binary64, of_int, le}
 use lib.Ieee.Fits.{down_pos}
 use lib.Ieee.Exact.{HasValue, round_exact}
-use lib.Ieee.Positive.{positive_of_value, mul_at}
 use Rattle.std.proofs.lemmas.Bool.{le-leb, lt-leb, leb-true, leb-false}
+use Rattle.std.specs.Prelude.{count_by}
+use Rattle.std.proofs.lemmas.List.Sums.{sum_by_push}
 use Rattle.integers.specs.Words.{whole}
 use Rattle.integers.specs.Digits.{tens, digits, Lengths}
 use Rattle.integers.proofs.Values.{le-true, le-false}
@@ -22,21 +23,8 @@ exact k h =
     round_exact binary64 false (10 ^ k) 1 (5 ^ k) (k + 1074) (lit< tt) small (lt_of_lt_of_le (shl_lt 53 (k + 1074) small) (pow_mono room))
     (ap (λ (n : ℕ). n * 2 ^ 1074) (ten_pow k) ∙ mul_assoc (5 ^ k) (2 ^ k) (2 ^ 1074) ∙ ap (λ (n : ℕ). 5 ^ k * n) (sym (pow-add 2 k 1074)) ∙ sym (mul-one (5 ^ k * 2 ^ (k + 1074))))
 
-pub ten : of_bits binary64 0x4024_0000_0000_0000 ≡ fin false 5 (pos 1)
-unfolding of_bits
-ten = refl
-
 pow_some : (k : ℕ) → 0 < 10 ^ k
 pow_some k = lt_of_lt_of_le (lit< tt) (pow-le-pow_right {n = 10} (lit< tt) {i = 0} {j = k} (omega arith))
-
--- the next power, up to 10 ^ 23, which is rounded
-pub times_ten : (k : ℕ) → k ≤ 22 → mul binary64 (of_int binary64 (pos (10 ^ k))) (fin false 5 (pos 1)) ≡ of_int binary64 (pos (10 ^ suc k))
-unfolding of_int
-times_ten k h =
-    let p = of_int binary64 (pos (10 ^ k)) in
-    let v = exact k h in
-    mul_at binary64 p (fin false 5 (pos 1)) (10 ^ k) 1 10 1 (positive_of_value p (10 ^ k) 1 v (pow_some k)) tt (lit< tt) (lit< tt) v (refl, refl)
-    ∙ ap (λ (n : ℕ). round binary64 false n 1) (sym (pow-suc 10 k))
 
 size : (y : Float) (a m : ℕ) (e : ℤ) → HasValue y false a 1 → le y (fin false m e) ≡ leb a (whole m e)
 size y a m e v = go (le y (fin false m e)) refl
@@ -48,19 +36,19 @@ size y a m e v = go (le y (fin false m e)) refl
 pub compares : (k m : ℕ) (e : ℤ) → k ≤ 22 → le (of_int binary64 (pos (10 ^ k))) (fin false m e) ≡ leb (10 ^ k) (whole m e)
 compares k m e h = size (of_int binary64 (pos (10 ^ k))) (10 ^ k) m e (exact k h)
 
-onward : (n j i : ℕ) → j ≤ i → leb (10 ^ j) n ≡ false → leb (10 ^ i) n ≡ false
-onward n j i l h = lt-leb (10 ^ i) n (lt_of_lt_of_le (leb-false _ _ h) (pow-le-pow_right {n = 10} (lit< tt) l))
+-- the powers of ten from 10 to 10 ^ k
+abbrev pub powers : ℕ → List Float
+powers zero = []
+powers (suc k) = powers k ++ of_int binary64 (pos (10 ^ suc k)) ∷ []
 
--- the count does not grow past a power that is out of reach
-pub stops : (n k d : ℕ) → leb (10 ^ suc k) n ≡ false → tens (d + k) n ≡ tens k n
+-- as many of them are at most a number as are at most its whole part
+pub reached : (k m : ℕ) (e : ℤ) → k ≤ 22 → count_by (λ p. le p (fin false m e)) (powers k) ≡ tens k (whole m e)
 unfolding tens
-stops n k zero h = ap (λ (i : ℕ). tens i n) (zero-add k)
-stops n k (suc d) h =
-    let l : suc k ≤ suc (d + k) = omega arith in
-    ap (λ (i : ℕ). tens i n) (suc-add d k)
-    ∙ ap (λ (b : Bool). tens (d + k) n + cond b 1 0) (onward n (suc k) (suc (d + k)) l h)
-    ∙ add-zero (tens (d + k) n)
-    ∙ stops n k d h
+reached zero m e h = refl
+reached (suc k) m e h =
+    sum_by_push (λ p. cond (le p (fin false m e)) 1 0) (powers k) (of_int binary64 (pos (10 ^ suc k)))
+    ∙ ap (λ (n : ℕ). n + cond (le (of_int binary64 (pos (10 ^ suc k))) (fin false m e)) 1 0) (reached k m e (omega arith))
+    ∙ ap (λ (b : Bool). tens k (whole m e) + cond b 1 0) (compares (suc k) m e h)
 
 pub none : (n : ℕ) → tens 0 n ≡ 0
 unfolding tens
@@ -74,12 +62,12 @@ fewer : (n k : ℕ) → leb (10 ^ suc k) n ≡ false → tens (suc k) n ≡ tens
 unfolding tens
 fewer n k h = ap (λ (b : Bool). tens k n + cond b 1 0) h ∙ add-zero (tens k n)
 
-reached : (n k : ℕ) → leb (10 ^ suc k) n ≡ true → leb (10 ^ k) n ≡ true
-reached n k h = le-leb (10 ^ k) n (le_trans (pow-le-pow_right {n = 10} (lit< tt) {i = k} {j = suc k} (omega arith)) (leb-true _ _ h))
+below_too : (n k : ℕ) → leb (10 ^ suc k) n ≡ true → leb (10 ^ k) n ≡ true
+below_too n k h = le-leb (10 ^ k) n (le_trans (pow-le-pow_right {n = 10} (lit< tt) {i = k} {j = suc k} (omega arith)) (leb-true _ _ h))
 
 all : (n k : ℕ) → leb (10 ^ k) n ≡ true → tens k n ≡ k
 all n zero h = none n
-all n (suc k) h = more n k h ∙ ap suc (all n k (reached n k h))
+all n (suc k) h = more n k h ∙ ap suc (all n k (below_too n k h))
 
 -- tens k n is the last exponent up to k in reach
 bracket : (n k : ℕ) → n < 10 ^ suc k → 0 < n → (10 ^ tens k n ≤ n) × (n < 10 ^ suc (tens k n))

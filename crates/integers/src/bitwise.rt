@@ -10,6 +10,8 @@ pub fn bitwise_not(x: f64) -> f64
     !to_int_32(x) as f64
 }
 
+// Each operator on two numbers stays a line of its own: a helper that took the operator as a closure
+// would be no shorter, and its contract would speak of calls.
 pub fn bitwise_and(x: f64, y: f64) -> f64
     ensures value { result ≡ bitwise_and x y }
     ensures associates { Associates bitwise_and }

@@ -24,6 +24,7 @@ pub fn safe_integer(x: f64) -> Option<Integer>
     None
 }
 
+// Not a `From`, which would lose nothing: a size from 2^53 on is rounded.
 pub fn from_integer(n: Integer) -> f64
     ensures value { result ≡ made n }
     ensures same { MadeSafe }
