@@ -7,7 +7,7 @@ use units::span::{Span, Text};
 use words::text::MAX_UNITS;
 
 // The value of a constant. A string is a part of the source text.
-#[derive(Clone, Copy)]
+#[derive(Clone, Copy, Debug, PartialEq)]
 pub enum Value {
     Number(f64),
     String(Span),
@@ -17,7 +17,7 @@ pub enum Value {
 }
 
 // What a name stands for: a global of the page, a variable of the surroundings, or a value.
-#[derive(Clone, Copy, Default)]
+#[derive(Clone, Copy, Debug, Default, PartialEq)]
 pub enum Class {
     #[default]
     Free,
