@@ -4,3 +4,4 @@ pub mod Sound
 pub mod Parts
 pub mod Turns
 pub mod Writes
+pub mod Lengths

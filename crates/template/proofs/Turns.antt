@@ -1,9 +1,9 @@
 -- One turn of a loop over a text, and the end of it.
-use Rattle.std.proofs.Common.{◌≡◌, ℕ, ◌+◌, ◌<◌, ◌≤◌, List, [], ◌++◌, length, get_or, drop, ap, ◌∙◌, length-append}
-use Rattle.std.proofs.lemmas.List.{at_drop_more, at_drop_all}
+use Rattle.std.proofs.Common.{◌≡◌, ℕ, ◌+◌, ◌<◌, List, ◌++◌, length, get_or, drop}
+use Rattle.std.proofs.lemmas.List.{at_drop_more}
 use Rattle.template.specs.declared.machine.State.{State}
 use Rattle.template.specs.declared.machine.Step.{Step}
-use Rattle.template.specs.Machine.{stepped, may_end, units, ends, emitted}
+use Rattle.template.specs.Machine.{stepped, units, ends, emitted}
 
 module _ (s : State) (xs : List ℕ) (i : ℕ) where
   pub ends_more : (z : Step) → i < length xs → z ≡ stepped s (get_or xs i 0) → ends s (drop i xs) ≡ ends z.next (drop (i + 1) xs)
@@ -12,13 +12,3 @@ module _ (s : State) (xs : List ℕ) (i : ℕ) where
   pub emitted_more : (z : Step) → i < length xs → z ≡ stepped s (get_or xs i 0) →
       emitted s (drop i xs) ≡ units z.cooked ++ emitted z.next (drop (i + 1) xs)
   emitted_more z h e = rw e (at_drop_more (emitted s) xs i 0 h)
-
-  pub ends_all : length xs ≤ i → ends s (drop i xs) ≡ may_end s
-  ends_all h = at_drop_all (ends s) xs i h
-
-  pub emitted_all : length xs ≤ i → emitted s (drop i xs) ≡ []
-  emitted_all h = at_drop_all (emitted s) xs i h
-
-  pub length_more : (z : Step) → i < length xs → z ≡ stepped s (get_or xs i 0) →
-      length (emitted s (drop i xs)) ≡ length (units z.cooked) + length (emitted z.next (drop (i + 1) xs))
-  length_more z h e = ap length (emitted_more z h e) ∙ length-append (units z.cooked) _

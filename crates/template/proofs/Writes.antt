@@ -1,48 +1,56 @@
--- Units written one after another into a slice.
-use Rattle.std.proofs.Common.{◌≡◌, ℕ, ◌+◌, ◌<◌, ◌≤◌, List, [], ◌∷◌, ◌++◌, length, take, drop, set, sym, ap, ◌∙◌, subst, arith}
-use Rattle.std.proofs.lemmas.List.{append-nil, append_assoc, take-append-drop, take_more_set, drop-set-lt, drop-drop, length-append, length-take-le, length-set}
+-- A cooked text, written unit by unit.
+use Rattle.std.proofs.Common.{◌≡◌, ℕ, ◌+◌, ◌<◌, ◌≤◌, List, [], ◌∷◌, ◌++◌, length, get_or, drop, set, refl, sym, ap, ◌∙◌, arith}
+use Rattle.std.proofs.lemmas.List.{append-nil, append_assoc, length-append}
+use Rattle.template.specs.declared.machine.State.{State}
+use Rattle.template.specs.declared.machine.State.TheVariants.{Start}
+use Rattle.template.specs.declared.machine.Step.{Step}
+use Rattle.template.proofs.Lengths.{no_longer}
+use Rattle.template.specs.Machine.{stepped, units, ends, emitted, put, over}
+use Rattle.template.proofs.Turns.{ends_more, emitted_more}
 
-module _ (xs : List ℕ) (i a b : ℕ) (room : i + 2 ≤ length xs) where
-  pub two_wrote : take (i + 2) (set (set xs i a) (i + 1) b) ≡ take i xs ++ (a ∷ b ∷ [])
-  two_wrote =
-      let more : i + 1 + 1 ≡ i + 2 = omega arith in
-      let long : i + 1 < length (set xs i a) = simp length-set (omega arith) in
-      let second = take_more_set (set xs i a) (i + 1) b long in
-      let first = take_more_set xs i a (omega arith) in
-      rw (← more) (second ∙ ap (λ t. t ++ (b ∷ [])) first ∙ append_assoc (take i xs) (a ∷ []) (b ∷ []))
+over_push : (text old : List ℕ) (u : ℕ) → over (text ++ u ∷ []) old ≡ set (over text old) (length text) u
+over_push [] [] u = refl
+over_push [] (x ∷ old) u = refl
+over_push (t ∷ text) [] u = refl
+over_push (t ∷ text) (x ∷ old) u = ap (λ xs. t ∷ xs) (over_push text old u)
 
-  pub two_rest : drop (i + 2) (set (set xs i a) (i + 1) b) ≡ drop (i + 2) xs
-  two_rest = drop-set-lt (i + 2) (set xs i a) (i + 1) b (omega arith) ∙ drop-set-lt (i + 2) xs i a (omega arith)
+pub over_more : (text more old : List ℕ) → over (text ++ more) old ≡ put (over text old) (length text) more
+over_more text [] old = ap (λ t. over t old) (append-nil text)
+over_more text (u ∷ more) old =
+    let step = over_more (text ++ u ∷ []) more old in
+    ap (λ t. over t old) (sym (append_assoc text (u ∷ []) more)) ∙ rw (over_push, length-append) at step
 
--- `out` holds what of the text is written so far, up to `at`, and from there on what it held before;
--- `left` is what of the text is still to come.
-pub record Written (old text left : List ℕ) (at : ℕ) (out : List ℕ) : Type 0 where
-  pub wrote : take at out ++ left ≡ text
-  pub rest : drop at out ≡ drop at old
-  pub low : at ≤ length out
+pub over_fits : (text old : List ℕ) → length text ≤ length old → over text old ≡ text ++ drop (length text) old
+over_fits [] old h = refl
+over_fits (t ∷ text) [] h = absurd (omega arith)
+over_fits (t ∷ text) (x ∷ old) h = ap (λ xs. t ∷ xs) (over_fits text old (omega arith))
 
-pub fits : {old text left out : List ℕ} {at : ℕ} → Written old text left at out → length text ≤ length out → (more later : List ℕ) → left ≡ more ++ later → at + length more ≤ length out
-fits {left = left} {out = out} {at = at} w room more later is =
-    let all = ap length w.wrote in
-    let parts = length-append (take at out) left in
-    let front = length-take-le at out w.low in
-    let rear = ap length is ∙ length-append more later in
-    omega arith
+-- A loop over `raw` has come to the state s, and has the rest to read: what it wrote is the front of
+-- the cooked text, over what the slice held before, and ends at `end`.
+pub record Written (raw old : List ℕ) (s : State) (rest : List ℕ) (end : ℕ) (out : List ℕ) : Type 0 where
+  pub front : List ℕ
+  pub whole : front ++ emitted s rest ≡ emitted Start raw
+  pub count : length front ≡ end
+  pub wrote : out ≡ over front old
+  pub on : ends s rest ≡ ends Start raw
 
-pub more_written : {old text left out : List ℕ} {at : ℕ} → Written old text left at out → (more later next : List ℕ) (end : ℕ) →
-    left ≡ more ++ later → end ≡ at + length more → end ≤ length next → take end next ≡ take at out ++ more → drop end next ≡ drop end out →
-    Written old text later end next
-more_written {old = old} {out = out} {at = at} w more later next end is place fit front rear =
-    let k = length more in
-    let same : drop (at + k) out ≡ drop (at + k) old = sym (drop-drop k at out) ∙ ap (drop k) w.rest ∙ drop-drop k at old in
-    record {
-      wrote = ap (λ t. t ++ later) front ∙ append_assoc (take at out) more later ∙ ap (λ t. take at out ++ t) (sym is) ∙ w.wrote;
-      rest = rear ∙ subst (λ e. drop e out ≡ drop e old) (sym place) same;
-      low = fit;
-    }
+module _ {raw old out : List ℕ} {s : State} {i end : ℕ} (w : Written raw old s (drop i raw) end out) where
+  module _ (z : Step) (inside : i < length raw) (is : z ≡ stepped s (get_or raw i 0)) where
+    pub fits : end + length (units z.cooked) ≤ length raw
+    fits =
+        let turn = ap length (emitted_more s raw i z inside is) in
+        let parts = length-append w.front (emitted s (drop i raw)) in
+        let more = length-append (units z.cooked) (emitted z.next (drop (i + 1) raw)) in
+        omega (arith, w.count, ap length w.whole, no_longer raw)
 
-pub all_written : {old text left out : List ℕ} {at : ℕ} → Written old text left at out → left ≡ [] → out ≡ text ++ drop (length text) old
-all_written {text = text} {out = out} {at = at} w none =
-    let front : take at out ≡ text = sym (append-nil (take at out)) ∙ ap (λ t. take at out ++ t) (sym none) ∙ w.wrote in
-    let count : length text ≡ at = ap length (sym front) ∙ length-take-le at out w.low in
-    rw count (sym (take-append-drop at out) ∙ ap (λ t. t ++ drop at out) front ∙ ap (λ t. text ++ t) w.rest)
+    pub written_more : (next : List ℕ) → next ≡ put out end (units z.cooked) → Written raw old z.next (drop (i + 1) raw) (end + length (units z.cooked)) next
+    written_more next is_put =
+        let text = units z.cooked in
+        let left = emitted z.next (drop (i + 1) raw) in
+        record {
+          front = w.front ++ text;
+          whole = append_assoc w.front text left ∙ ap (λ t. w.front ++ t) (sym (emitted_more s raw i z inside is)) ∙ w.whole;
+          count = length-append w.front text ∙ ap (λ n. n + length text) w.count;
+          wrote = is_put ∙ sym (rw (w.count, ← w.wrote) at (over_more w.front text old));
+          on = sym (ends_more s raw i z inside is) ∙ w.on;
+        }

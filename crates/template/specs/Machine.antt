@@ -1,6 +1,6 @@
 -- The machine that reads a raw part unit by unit, for the contracts of the private functions.
 -- The public contracts speak of Raw alone.
-use Rattle.std.specs.Prelude.{◌≡◌, ℕ, ◌+◌, ◌-◌, ◌*◌, ◌/◌, ◌%◌, ◌<◌, ◌≤◌, Bool, true, false, cond, List, [], ◌∷◌, ◌++◌, length, Some, None, Option, ◌==◌, nat_le}
+use Rattle.std.specs.Prelude.{ℕ, ◌+◌, ◌-◌, ◌*◌, ◌/◌, ◌%◌, Bool, true, false, cond, List, [], ◌∷◌, ◌++◌, length, slice_set, Some, None, Option, ◌==◌, nat_le}
 use Rattle.template.specs.declared.machine.State.{State}
 use Rattle.template.specs.declared.machine.State.TheVariants.{Start, Dollar, Backslash, Zero, Unicode, Digits, Open, Braced, Lead, Bad}
 use Rattle.template.specs.declared.machine.Cooked.{Cooked}
@@ -92,7 +92,17 @@ abbrev pub emitted : State → List ℕ → List ℕ
 emitted s [] = []
 emitted s (u ∷ us) = units (stepped s u).cooked ++ emitted (stepped s u).next us
 
--- the length of what the text cooks to, where it ends well and that is no more than the room
-abbrev pub Measured : List ℕ → ℕ → Option ℕ → Type 0
-Measured raw room (Some k) = (ends Start raw ≡ true) × (k ≡ length (emitted Start raw)) × (k ≤ room)
-Measured raw room None = ends Start raw ≡ true → room < length (emitted Start raw)
+-- the length of what the text cooks to, where it ends well
+abbrev pub cooked_length : List ℕ → Option ℕ
+cooked_length raw = cond (ends Start raw) (Some (length (emitted Start raw))) None
+
+-- units written from a place on, as far as the slice reaches
+abbrev pub put : List ℕ → ℕ → List ℕ → List ℕ
+put out at [] = out
+put out at (u ∷ us) = put (slice_set out at u) (at + 1) us
+
+-- a text over the front of a slice, as far as the slice reaches
+abbrev pub over : List ℕ → List ℕ → List ℕ
+over [] old = old
+over (u ∷ us) [] = []
+over (u ∷ us) (x ∷ old) = u ∷ over us old

@@ -1,63 +1,44 @@
-ghost use Rattle.std.specs.Prelude.{◌≡◌, ◌+◌, ◌≤◌, ◌++◌, length, take, drop};
+ghost use Rattle.std.specs.Prelude.{◌≡◌, ◌+◌, ◌<◌, ◌^◌, length, slice_set};
 ghost use Rattle.template.specs.declared.machine.State.TheVariants.{Start};
 ghost use Rattle.template.specs.Claims.{CookedInto};
-ghost use Rattle.template.specs.Machine.{emitted, units, Measured};
+ghost use Rattle.template.specs.Machine.{cooked_length, emitted, over, put, units};
 
 use crate::machine::{Cooked, State, advance, may_end};
 
-fn length_of(cooked: Cooked) -> usize
-    ensures { result ≡ length (units cooked) }
+// Writes a unit where `out` has that place.
+fn keep(unit: u16, place: usize, out: &mut [u16])
+    ensures { out.new ≡ slice_set out.old place unit }
 {
-    match cooked {
-        Cooked::Nothing => 0,
-        Cooked::One(_) => 1,
-        Cooked::Two(_, _) => 2,
+    if place < out.len() {
+        out[place] = unit;
     }
 }
 
-// The length of the cooked text of a raw part, if that is no more than `room`.
-fn cooked_length(raw: &[u16], room: usize) -> Option<usize>
-    ensures { Measured raw.now room result }
-{
-    let mut state = State::Start;
-    let mut length = 0;
-    for unit in raw {
-        let step = advance(state, *unit);
-        let more = length_of(step.cooked);
-        if more > room - length {
-            return None;
-        }
-        length += more;
-        state = step.next;
-    }
-    if may_end(state) { Some(length) } else { None }
-}
-
-// Writes the units into `out` from `start` on, and gives their end.
+// Writes the units from `start` on, as far as `out` reaches, and gives their end.
 fn put(cooked: Cooked, start: usize, out: &mut [u16]) -> usize
-    requires { start + length (units cooked) ≤ length out.old }
+    requires { start + length (units cooked) < 2 ^ 64 }
     ensures place { result ≡ start + length (units cooked) }
-    ensures wrote { take result out.new ≡ take start out.old ++ units cooked }
-    ensures rest { drop result out.new ≡ drop result out.old }
+    ensures wrote { out.new ≡ put out.old start (units cooked) }
 {
     match cooked {
         Cooked::Nothing => start,
         Cooked::One(unit) => {
-            out[start] = unit;
+            keep(unit, start, out);
             start + 1
         }
         Cooked::Two(first, second) => {
-            out[start] = first;
-            out[start + 1] = second;
+            keep(first, start, out);
+            keep(second, start + 1, out);
             start + 2
         }
     }
 }
 
-// Writes the cooked text of `raw` to the front of `out`.
-fn write_cooked(raw: &[u16], out: &mut [u16])
-    requires { length (emitted Start raw.now) ≤ length out.old }
-    ensures { out.new ≡ emitted Start raw.now ++ drop (length (emitted Start raw.now)) out.old }
+// Writes the cooked text over the front of `out`, as far as `out` reaches, and gives its length, if
+// `raw` is a raw part.
+fn write_cooked(raw: &[u16], out: &mut [u16]) -> Option<usize>
+    ensures length { result ≡ cooked_length raw.now }
+    ensures wrote { out.new ≡ over (emitted Start raw.now) out.old }
 {
     let mut state = State::Start;
     let mut end = 0;
@@ -66,6 +47,7 @@ fn write_cooked(raw: &[u16], out: &mut [u16])
         end = put(step.cooked, end, out);
         state = step.next;
     }
+    if may_end(state) { Some(end) } else { None }
 }
 
 // Writes the cooked text of a raw part to the front of `out`, and gives its length. Where `raw` is no
@@ -73,7 +55,10 @@ fn write_cooked(raw: &[u16], out: &mut [u16])
 pub fn cook(raw: &[u16], out: &mut [u16]) -> Option<usize>
     ensures { CookedInto raw.now out.old out.new result }
 {
-    let length = cooked_length(raw, out.len())?;
-    write_cooked(raw, out);
-    Some(length)
+    // counted over no units before it is written, so that a refusal writes nothing
+    let length = write_cooked(raw, &mut [])?;
+    if length > out.len() {
+        return None;
+    }
+    write_cooked(raw, out)
 }
