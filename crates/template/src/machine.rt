@@ -3,7 +3,8 @@
 // that the text is no raw part.
 ghost use Rattle.std.specs.Prelude.{◌≡◌};
 ghost use Rattle.template.specs.Raw.{hex_value};
-ghost use Rattle.template.specs.Machine.{stepped, may_end, character, escape, grown, code_point, fixed, braced};
+ghost use Rattle.template.specs.declared.machine.Cooked.TheVariants.{Nothing, One};
+ghost use Rattle.template.specs.Machine.{to, stepped, may_end, character, escape, grown, code_point, fixed, braced};
 
 #[derive(Clone, Copy, Debug, PartialEq, Eq)]
 pub enum State {
@@ -40,6 +41,27 @@ pub struct Step {
     pub cooked: Cooked,
 }
 
+impl Step {
+    // A step that cooks nothing.
+    const fn to(next: State) -> Step
+        ensures { result ≡ to next Nothing }
+    {
+        Step {
+            next,
+            cooked: Cooked::Nothing,
+        }
+    }
+
+    const fn cooks(unit: u16, next: State) -> Step
+        ensures { result ≡ to next (One unit) }
+    {
+        Step {
+            next,
+            cooked: Cooked::One(unit),
+        }
+    }
+}
+
 const BAD: Step = Step {
     next: State::Bad,
     cooked: Cooked::Nothing,
@@ -66,23 +88,11 @@ fn character(unit: u16) -> Step
     ensures { result ≡ character unit }
 {
     match unit {
-        BACKSLASH => Step {
-            next: State::Backslash,
-            cooked: Cooked::Nothing,
-        },
-        DOLLAR => Step {
-            next: State::Dollar,
-            cooked: Cooked::One(unit),
-        },
-        0xd800..=0xdbff => Step {
-            next: State::Lead,
-            cooked: Cooked::One(unit),
-        },
+        BACKSLASH => Step::to(State::Backslash),
+        DOLLAR => Step::cooks(unit, State::Dollar),
+        0xd800..=0xdbff => Step::cooks(unit, State::Lead),
         BACKTICK | 0x0d | 0xdc00..=0xdfff => BAD,
-        _ => Step {
-            next: State::Start,
-            cooked: Cooked::One(unit),
-        },
+        _ => Step::cooks(unit, State::Start),
     }
 }
 
@@ -90,40 +100,24 @@ fn character(unit: u16) -> Step
 fn escape(unit: u16) -> Step
     ensures { result ≡ escape unit }
 {
-    let cooked = match unit {
+    match unit {
         // x, u and 0 go on
-        0x78 => return Step {
-            next: State::Digits { after: 1, value: 0 },
-            cooked: Cooked::Nothing,
-        },
-        0x75 => return Step {
-            next: State::Unicode,
-            cooked: Cooked::Nothing,
-        },
-        0x30 => return Step {
-            next: State::Zero,
-            cooked: Cooked::One(0),
-        },
-        0xd800..=0xdbff => return Step {
-            next: State::Lead,
-            cooked: Cooked::One(unit),
-        },
-        0x0d | 0x31..=0x39 | 0xdc00..=0xdfff => return BAD,
+        0x78 => Step::to(State::Digits { after: 1, value: 0 }),
+        0x75 => Step::to(State::Unicode),
+        0x30 => Step::cooks(0, State::Zero),
+        0xd800..=0xdbff => Step::cooks(unit, State::Lead),
+        0x0d | 0x31..=0x39 | 0xdc00..=0xdfff => BAD,
         // a line continuation
-        0x0a | 0x2028 | 0x2029 => Cooked::Nothing,
+        0x0a | 0x2028 | 0x2029 => Step::to(State::Start),
         // b t n v f r
-        0x62 => Cooked::One(0x08),
-        0x74 => Cooked::One(0x09),
-        0x6e => Cooked::One(0x0a),
-        0x76 => Cooked::One(0x0b),
-        0x66 => Cooked::One(0x0c),
-        0x72 => Cooked::One(0x0d),
+        0x62 => Step::cooks(0x08, State::Start),
+        0x74 => Step::cooks(0x09, State::Start),
+        0x6e => Step::cooks(0x0a, State::Start),
+        0x76 => Step::cooks(0x0b, State::Start),
+        0x66 => Step::cooks(0x0c, State::Start),
+        0x72 => Step::cooks(0x0d, State::Start),
         // the quotes, the backslash, and whatever is no escape
-        _ => Cooked::One(unit),
-    };
-    Step {
-        next: State::Start,
-        cooked,
+        _ => Step::cooks(unit, State::Start),
     }
 }
 
@@ -166,13 +160,10 @@ fn fixed(after: u8, value: u32, unit: u16) -> Step
     match with_digit(value, unit) {
         None => BAD,
         Some(value) if after == 0 => code_point(value),
-        Some(value) => Step {
-            next: State::Digits {
-                after: after - 1,
-                value,
-            },
-            cooked: Cooked::Nothing,
-        },
+        Some(value) => Step::to(State::Digits {
+            after: after - 1,
+            value,
+        }),
     }
 }
 
@@ -182,10 +173,7 @@ fn braced(value: u32, unit: u16) -> Step
 {
     match with_digit(value, unit) {
         None => BAD,
-        Some(value) => Step {
-            next: State::Braced(value),
-            cooked: Cooked::Nothing,
-        },
+        Some(value) => Step::to(State::Braced(value)),
     }
 }
 
@@ -199,21 +187,14 @@ pub(crate) fn advance(state: State, unit: u16) -> Step
         (State::Zero, 0x30..=0x39) => BAD,
         (State::Zero, _) => character(unit),
         (State::Backslash, _) => escape(unit),
-        (State::Unicode, LEFT_BRACE) => Step {
-            next: State::Open,
-            cooked: Cooked::Nothing,
-        },
+        (State::Unicode, LEFT_BRACE) => Step::to(State::Open),
         (State::Unicode, _) => fixed(3, 0, unit),
         (State::Digits { after, value }, _) => fixed(after, value, unit),
         (State::Open, _) => braced(0, unit),
         (State::Braced(value), RIGHT_BRACE) => code_point(value),
         (State::Braced(value), _) => braced(value, unit),
-        (State::Lead, 0xdc00..=0xdfff) => Step {
-            next: State::Start,
-            cooked: Cooked::One(unit),
-        },
-        (State::Lead, _) => BAD,
-        (State::Bad, _) => BAD,
+        (State::Lead, 0xdc00..=0xdfff) => Step::cooks(unit, State::Start),
+        (State::Lead | State::Bad, _) => BAD,
     }
 }
 
@@ -221,8 +202,5 @@ pub(crate) fn advance(state: State, unit: u16) -> Step
 pub(crate) fn may_end(state: State) -> bool
     ensures { result ≡ may_end state }
 {
-    match state {
-        State::Start | State::Dollar | State::Zero => true,
-        _ => false,
-    }
+    matches!(state, State::Start | State::Dollar | State::Zero)
 }
