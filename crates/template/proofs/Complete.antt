@@ -10,7 +10,7 @@ use Rattle.units.specs.CodePoints.{is_lead, is_trail}
 use Rattle.template.specs.Raw.{begins, is_digit, is_line, hex_value, single_escape, utf16, Hex, Raw}
 use Rattle.template.specs.Raw.Hex.{no_digit, one_more}
 use Rattle.template.specs.Raw.Raw.{end, dollar, plain, pair, continuation, single, non_escape, non_escape_pair, null, hex, unicode, code_point_escape}
-use Rattle.template.specs.Machine.{to, character, escape, code_point, stepped, units, ends, emitted}
+use Rattle.template.specs.Machine.{to, character, may_end, escape, code_point, stepped, units, ends, emitted}
 use Rattle.template.proofs.Digit.{hex_other, two_below, four_below, leb_shorter, leb_below}
 
 -- from that state on the machine reads the text to an end, and cooks it to c
@@ -28,13 +28,16 @@ bad_ends [] = refl
 bad_ends (u ∷ us) = bad_ends us
 
 -- a lookahead that does not come
+after : (s : State) (test : ℕ → Bool) → may_end s ≡ true → ((u : ℕ) → test u ≡ false → stepped s u ≡ character u) →
+    (us : List ℕ) {c : List ℕ} → begins test us ≡ false → Runs Start us c → Runs s us c
+after s test last step [] h r = record { ended = last; gave = r.gave }
+after s test last step (u ∷ us) h r = record { ended = rw (step u h) r.ended; gave = rw (step u h) r.gave }
+
 after_dollar : (us : List ℕ) {c : List ℕ} → begins (λ u. eqb u 0x7B) us ≡ false → Runs Start us c → Runs Dollar us c
-after_dollar [] h r = record { ended = refl; gave = r.gave }
-after_dollar (u ∷ us) h r = record { ended = rw h r.ended; gave = rw h r.gave }
+after_dollar = after Dollar _ refl (λ u h. rw h)
 
 after_zero : (us : List ℕ) {c : List ℕ} → begins is_digit us ≡ false → Runs Start us c → Runs Zero us c
-after_zero [] h r = record { ended = refl; gave = r.gave }
-after_zero (u ∷ us) h r = record { ended = rw h r.ended; gave = rw h r.gave }
+after_zero = after Zero _ refl (λ u h. rw h)
 
 lead_step : (u : ℕ) → is_lead u ≡ true → character u ≡ to Lead (One u)
 lead_step u h = grind (arith, nat_tests)

@@ -1,5 +1,6 @@
 -- Hex digits, their values and their bounds.
-use Rattle.std.proofs.Common.{◌≡◌, ℕ, ◌+◌, ◌*◌, ◌<◌, true, false, eqb, leb, List, Some, None, arith}
+use Rattle.std.proofs.Common.{◌≡◌, ℕ, ◌+◌, ◌*◌, ◌^◌, ◌<◌, true, false, eqb, leb, List, Some, None, arith}
+use Rattle.std.proofs.Math.Nat.{pow-suc}
 use Rattle.std.proofs.lemmas.Bool.{leb-true, le-leb, ne_eqb}
 use Rattle.std.proofs.lemmas.Bool.Decides.{nat_tests}
 use Rattle.template.specs.Raw.{hex_value, Hex}
@@ -12,15 +13,16 @@ hex_below u m e = grind (arith, nat_tests)
 pub hex_other : (u w m : ℕ) → hex_value w ≡ None → hex_value u ≡ Some m → eqb u w ≡ false
 hex_other u w m none some = ne_eqb u w (λ e. let z : ◌≡◌ {A = ℕ} 0 1 = cc in omega arith)
 
+below_power : {n v : ℕ} {s r : List ℕ} → Hex n s v r → v < 16 ^ n
+below_power no_digit = omega arith
+below_power (one_more {n = n} {u = u} {m = m} d e) = omega (arith, hex_below u m e, below_power d, pow-suc 16 n)
+
+-- two or four digits make a unit
 pub two_below : {s r : List ℕ} {v : ℕ} → Hex 2 s v r → leb v 0xFFFF ≡ true
-two_below (one_more {u = t} {m = m} (one_more {u = u} {m = n} no_digit a) b) =
-    let h = hex_below t m b in let k = hex_below u n a in le-leb _ _ (omega arith)
+two_below d = le-leb _ _ (omega (arith, below_power d))
 
 pub four_below : {s r : List ℕ} {v : ℕ} → Hex 4 s v r → leb v 0xFFFF ≡ true
-four_below (one_more {u = t} {m = m} (one_more {u = u} {m = n} (one_more {u = w} {m = o} (one_more {u = x} {m = p} no_digit d) e) a) b) =
-    let h = hex_below t m b in
-    let k = hex_below u n a in
-    let i = hex_below w o e in let j = hex_below x p d in le-leb _ _ (omega arith)
+four_below d = le-leb _ _ (omega (arith, below_power d))
 
 -- a value within the code points was so before its last digit
 pub leb_shorter : (v m limit : ℕ) → leb (v * 16 + m) limit ≡ true → leb v limit ≡ true

@@ -43,7 +43,7 @@ pub struct Step {
 
 impl Step {
     // A step that cooks nothing.
-    const fn to(next: State) -> Step
+    fn to(next: State) -> Step
         ensures { result ≡ to next Nothing }
     {
         Step {
@@ -52,7 +52,7 @@ impl Step {
         }
     }
 
-    const fn cooks(unit: u16, next: State) -> Step
+    fn cooks(unit: u16, next: State) -> Step
         ensures { result ≡ to next (One unit) }
     {
         Step {
