@@ -28,6 +28,8 @@ pub enum State {
     Bad,
 }
 
+// A text of at most two units. An enum, since a step is copied: the library's vectors of a fixed
+// capacity are not.
 #[derive(Clone, Copy, Debug, PartialEq, Eq)]
 pub enum Cooked {
     Nothing,
