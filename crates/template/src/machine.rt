@@ -28,8 +28,8 @@ pub enum State {
     Bad,
 }
 
-// A text of at most two units. An enum, since a step is copied: the library's vectors of a fixed
-// capacity are not.
+// A text of at most two units. An enum, since `BAD` holds one: a vector of a fixed capacity is made by
+// a call, and no constant holds that.
 #[derive(Clone, Copy, Debug, PartialEq, Eq)]
 pub enum Cooked {
     Nothing,
