@@ -17,10 +17,6 @@ same_rest : (m n : ℕ) (cs : List ℕ) → min m (2 ^ 64 - 1) ≡ min n (2 ^ 64
 same_rest m n [] e = cc
 same_rest m n (c ∷ cs) e = by_digit (is_ascii_digit c) _ _ (same_rest (m * 10 + (c - 48)) (n * 10 + (c - 48)) cs (omega arith))
 
-pub start : (s : List ℕ) → eqb (length s) 0 ≡ false → integer_of s ≡ value_after 0 s
-start [] e = absurd (true≢false e)
-start (c ∷ cs) e = refl
-
 pub more :
     (v w : ℕ) (xs : List ℕ) (i : ℕ) →
     i < length xs →
@@ -30,11 +26,3 @@ pub more :
 more v w xs i l d e =
     same_rest w (v * 10 + (get_or xs i 0 - 48)) (drop (i + 1) xs) e
     ∙ sym (at_drop_more (λ ys. capped (value_after v ys)) xs i 0 l ∙ ap (λ b. capped (cond b (value_after (v * 10 + (get_or xs i 0 - 48)) (drop (i + 1) xs)) None)) d)
-
-pub stop : (v : ℕ) (xs : List ℕ) (i : ℕ) → i < length xs → is_ascii_digit (get_or xs i 0) ≡ false → capped (value_after v (drop i xs)) ≡ None
-stop v xs i l d =
-    at_drop_more (λ ys. capped (value_after v ys)) xs i 0 l
-    ∙ ap (λ b. capped (cond b (value_after (v * 10 + (get_or xs i 0 - 48)) (drop (i + 1) xs)) None)) d
-
-pub done : (v : ℕ) (xs : List ℕ) (i : ℕ) → length xs ≤ i → v < 2 ^ 64 → capped (value_after v (drop i xs)) ≡ Some v
-done v xs i l small = at_drop_all (λ ys. capped (value_after v ys)) xs i l ∙ ap (λ n. Some n) (omega arith)

@@ -12,10 +12,6 @@ use Rattle.std.proofs.Math.ListN.{take, drop_of_length-le}
 use Rattle.std.proofs.Math.Seq.{take-length}
 use Rattle.script.specs.Words.{unspaced, is_space, over, blank, first_word, after_first}
 
-pub over_from_starts : (s : List ℕ) (r : Bool) → eqb (length s) 0 ≡ false → Decides r (get_or s 0 0 ≡ 35) → r ≡ over s
-over_from_starts [] r e d = absurd (true≢false e)
-over_from_starts (c ∷ cs) r e d = same_from_decides r (eqb c 35) d (Decides-eqb c 35)
-
 unspaced_same : (s : List ℕ) → ((t : List ℕ) → s ≡ 32 ∷ t → ⊥) → unspaced s ≡ s
 unspaced_same [] h = refl
 unspaced_same (c ∷ cs) h = cond-false (eqb c 32) (unspaced cs) (c ∷ cs) (ne_eqb c 32 (λ e. h cs (ap (λ d. d ∷ cs) e)))

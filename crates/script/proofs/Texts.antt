@@ -14,17 +14,6 @@ pub weaker : {X : Type 0} {P Q : X → Type 0} (r : Option X) → IfSome r P →
 weaker None h f = tt
 weaker (Some x) h f = f x h
 
-pub begins_shorter : (s : List ℕ) (c : ℕ) (t : List ℕ) → Begins s c t → length t < length s
-begins_shorter s c t b = omega (arith, ap length b, length-append (encode c) t, length-encode c, len_utf8_bounds c)
-
-hex_shorter : (s : List ℕ) (d : ℕ) (t : List ℕ) → Hex s d t → length t < length s
-hex_shorter s d t h = begins_shorter s h.digit t h.stands
-
-pub escape_shorter : (s : List ℕ) (u : ℕ) (t : List ℕ) → Escape s u t → length t < length s
-escape_shorter s u t (Escape.short c _ _ _ b e) = begins_shorter s c t b
-escape_shorter s u t (Escape.long _ _ m _ b h) =
-    omega (arith, begins_shorter s 117 m b, hex_shorter _ _ _ h.first, hex_shorter _ _ _ h.second, hex_shorter _ _ _ h.third, hex_shorter _ _ _ h.fourth)
-
 pub short_found : (r : Option ℕ) (c : ℕ) (s t : List ℕ) → Begins s c t → r ≡ short_escape c → IfSome r (λ u. Escape s u t)
 short_found None c s t b e = tt
 short_found (Some u) c s t b e = Escape.short c u s t b (sym e)
@@ -35,9 +24,6 @@ long_found r c s m t b e h = weaker r h (λ u x. Escape.long u s m t (subst (λ 
 -- What is read so far is the front of the units, whatever the rest is.
 abbrev pub Quoted : List ℕ → List ℕ → List ℕ → Type 0
 Quoted whole rest front = (us t : List ℕ) → Json rest us t → Json whole (front ++ us) t
-
-pub quoted_none : (s ys : List ℕ) → ys ≡ [] → Quoted s s ys
-quoted_none s ys e us t j = subst (λ zs. Json s (zs ++ us) t) (sym e) j
 
 pub quoted_plain : (w s xs : List ℕ) (c : ℕ) (m ys : List ℕ) → Quoted w s xs → Begins s c m → 32 ≤ c → c ≢ 34 → c ≢ 92 → ys ≡ xs ++ encode_utf16 c → Quoted w m ys
 quoted_plain w s xs c m ys h b low nq nb e us t j =

@@ -2,21 +2,14 @@ use Rattle.std.proofs.Common.{◌≤◌, ◌≢◌, vec_items, arith}
 use Rattle.std.specs.Str.Iter.{chars_rest}
 use Rattle.std.proofs.lemmas.Option.{MatchOption-at_some}
 use Rattle.script.specs.Units.{Escape}
-use Rattle.script.proofs.Texts.{quoted_none, quoted_plain, quoted_escaped, quoted_close, begins_shorter, escape_shorter}
+use Rattle.script.proofs.Texts.{quoted_plain, quoted_escaped, quoted_close}
 use Rattle.script.proofs.quoted.quoted.Goals as goal
-
-pub loop-c-init : goal.loop-c-init
-loop-c-init c = quoted_none (chars_rest c.args.chars.now) _ c.new-units.ensures.items
 
 pub returns-in-34 : goal.returns-in-34
 returns-in-34 c = quoted_close _ _ _ c.in-Some.c _ c.loop-c.invariant c.in-Some.ensures.steps.0 c.in-34.is
 
 escaped : (c : goal.In_ok-push-in-92) → Escape (chars_rest c.next.new.self) c.in_ok-ok_or-in-92.field-0 (chars_rest c.escape.new.chars)
 escaped c = MatchOption-at_some (Unit {0}) _ c.in_ok-ok_or-in-92.field-0 c.in_ok-ok_or-in-92.ensures.ok_part c.escape.ensures
-
-pub loop-c-smaller-in_ok-push-in-92 : goal.loop-c-smaller-in_ok-push-in-92
-loop-c-smaller-in_ok-push-in-92 c =
-    omega (arith, begins_shorter _ c.in-Some.c _ c.in-Some.ensures.steps.0, escape_shorter _ _ _ (escaped c))
 
 pub loop-c-preserved-in_ok-push-in-92 : goal.loop-c-preserved-in_ok-push-in-92
 loop-c-preserved-in_ok-push-in-92 c =
