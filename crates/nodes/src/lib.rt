@@ -1,7 +1,6 @@
 #![tactic(auto)]
 
 pub mod check;
-pub mod count;
 pub mod kind;
 pub mod put;
 pub mod shape;

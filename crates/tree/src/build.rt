@@ -1,12 +1,12 @@
-ghost use Rattle.std.specs.Prelude.{◌≡◌, ◌<◌, MatchBool, MatchResult};
-ghost use Rattle.nodes.specs.Put.{tallest};
+ghost use Rattle.std.specs.Prelude.{◌≡◌, ◌<◌, MatchBool, MatchOption, MatchResult};
+ghost use Rattle.nodes.specs.Put.{kind_of, tallest};
 ghost use Rattle.tree.specs.Calls.{Not, name_listed, InSource, RawPart, RawParts, ShapeFits, Good, Buildable, Built, BuildRefused};
 ghost use Rattle.tree.specs.Of.{state_of};
 
 use crate::refusal::Refusal;
 use crate::store::Store;
 use nodes::check::{are_free, tallest};
-use nodes::count::count_fits;
+use nodes::kind::Kind;
 use nodes::put::{kind_of, put};
 use nodes::shape::{Part, Shape};
 use template::is_raw_part;
@@ -61,23 +61,25 @@ impl Store {
         }
     }
 
-    fn is_good(&self, shape: Shape, parts: &[Part], written: bool) -> bool
-        ensures { MatchBool result (Good written (state_of self.now) shape parts.now) (Not (Good written (state_of self.now) shape parts.now)) }
+    // The kind of a new node, where all that the shape and the parts say fits.
+    fn good_kind(&self, shape: Shape, parts: &[Part], written: bool) -> Option<Kind>
+        ensures { MatchOption result (Not (Good written (state_of self.now) shape parts.now)) (λ kind. Good written (state_of self.now) shape parts.now × (kind ≡ kind_of shape parts.now)) }
     {
-        count_fits(shape, parts.len()) && self.shape_fits(shape, written) && self.are_raw(parts)
+        let kind = kind_of(shape, parts)?;
+        (self.shape_fits(shape, written) && self.are_raw(parts)).then_some(kind)
     }
 
-    // The height of the parts, where a node of that shape may be built over them.
-    fn admit(&self, shape: Shape, parts: &[Part], written: bool) -> Result<u16, Refusal>
-        ensures { MatchResult result (λ h. Buildable written (state_of self.now) shape parts.now × (h ≡ tallest self.now.entries.items parts.now) × (h < 256)) (λ e. BuildRefused written (state_of self.now) shape parts.now e) }
+    // The kind of a new node and the height of its parts, where it may be built over them.
+    fn admit(&self, shape: Shape, parts: &[Part], written: bool) -> Result<(Kind, u16), Refusal>
+        ensures { MatchResult result (λ r. Buildable written (state_of self.now) shape parts.now × (r.0 ≡ kind_of shape parts.now) × (r.1 ≡ tallest self.now.entries.items parts.now) × (r.1 < 256)) (λ e. BuildRefused written (state_of self.now) shape parts.now e) }
     {
         self.check_unrooted()?;
         if !are_free(&self.entries, parts) || !self.name_listed(shape) {
             return Err(Refusal::NoSuchNode);
         }
-        if !self.is_good(shape, parts, written) {
-            return Err(Refusal::BadNode);
-        }
+        let kind = self
+            .good_kind(shape, parts, written)
+            .ok_or(Refusal::BadNode)?;
         if !self.marks_fit(shape, parts) {
             return Err(Refusal::LooseMark);
         }
@@ -88,7 +90,7 @@ impl Store {
         if self.entries.len() >= self.capacity {
             return Err(Refusal::NoRoom);
         }
-        Ok(below)
+        Ok((kind, below))
     }
 
     // A new node over nodes that have no parent yet; it has the next number.
@@ -100,8 +102,7 @@ impl Store {
     ) -> Result<u16, Refusal>
         ensures { MatchResult result (λ n. Built written (state_of self.old) shape parts.now n (state_of self.new)) (λ e. BuildRefused written (state_of self.old) shape parts.now e × (state_of self.new ≡ state_of self.old)) }
     {
-        let below = self.admit(shape, parts, written)?;
-        let kind = kind_of(shape, parts);
+        let (kind, below) = self.admit(shape, parts, written)?;
         Ok(put(&mut self.entries, kind, below + LEVEL, parts))
     }
 }

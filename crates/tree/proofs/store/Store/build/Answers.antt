@@ -9,12 +9,12 @@ use Rattle.tree.proofs.store.Store.build.Goals as goal
 use Rattle.tree.proofs.store.Store.build.Goals.{After-put}
 
 pub overflow_add-below : goal.overflow_add-below
-overflow_add-below c = let h = c.in_ok-below.ensures.2 in omega arith
+overflow_add-below c = let h = c.in_ok-kind.ensures.3 in omega arith
 
 pub put-requires : goal.put-requires
 put-requires c =
     let self = c.args.self.now in
-    let ok = c.in_ok-below.ensures.0 in
+    let ok = c.in_ok-kind.ensures.0 in
     record {
       room = omega (arith, ok.5, self.reserved);
       numbered = omega (arith, ok.5, self.limited);
@@ -24,15 +24,15 @@ put-requires c =
 -- what the tree with the new node keeps, and what was built
 built_once : (c : After-put) → Keeps (with_entries (state_of c.args.self.now) (vec_items c.put.new.entries)) × Built c.args.written (state_of c.args.self.now) c.args.shape c.args.parts.now (used (state_of c.args.self.now)) (with_entries (state_of c.args.self.now) (vec_items c.put.new.entries))
 built_once c =
-    let a = c.in_ok-below.ensures in
-    added c.args.written (state_of c.args.self.now) c.args.shape c.args.parts.now (kept c.args.self.now) a.0 (vec_items c.put.new.entries) c.kind_of-kind.result c.in_ok-below.below c.put.ensures.items c.kind_of-kind.ensures a.1
+    let a = c.in_ok-kind.ensures in
+    added c.args.written (state_of c.args.self.now) c.args.shape c.args.parts.now (kept c.args.self.now) a.0 (vec_items c.put.new.entries) c.in_ok-kind.kind c.in_ok-kind.below c.put.ensures.items a.1 a.2
 
 pub invariant_of-self : goal.invariant_of-self
 invariant_of-self c =
     let self = c.args.self.now in
     let w = (built_once c).0 in
     record {
-      within = let ok = c.in_ok-below.ensures.0 in omega (arith, ok.5);
+      within = let ok = c.in_ok-kind.ensures.0 in omega (arith, ok.5);
       limited = self.limited;
       reserved = omega arith;
       roomy = self.roomy;
