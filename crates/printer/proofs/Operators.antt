@@ -1,5 +1,5 @@
 -- The text of an operation, by that of its operator.
-use Rattle.std.proofs.Common.{◌≡◌, ℕ, List, ◌++◌, Some, None, Option, ap, ◌∙◌}
+use Rattle.std.proofs.Common.{◌≡◌, ℕ, List, ◌++◌, Some, None, Option}
 use lib.Ieee.{Float}
 use Rattle.std.specs.Option.{option_map}
 use Rattle.syntax.specs.Expr.{Expr}

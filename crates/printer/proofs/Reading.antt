@@ -1,7 +1,6 @@
 -- A node of the tree, read off its entry.
 use Rattle.std.proofs.Common.{◌≡◌, ℕ, ◌<◌, ◌≤◌, true, false, List, [], ◌∷◌, ◌++◌, length, codes, Option, refl, sym, ap, ◌∙◌, inl, inr, arith}
 use lib.Ieee.{Float}
-use Rattle.syntax.specs.Expr.{Expr}
 use Rattle.nodes.specs.declared.kind.Entry.{Entry}
 use Rattle.nodes.specs.Meaning.{at, links_of, kids}
 use Rattle.nodes.proofs.Laws.{unfold_expr, under}

@@ -16,7 +16,6 @@ put-append s (x ∷ xs) ys = put-append (put_byte s x) xs ys
 
 -- one step after another
 infixl 20 ◌⨾◌
-
 pub ◌⨾◌ : {s t u : Sink} {xs ys : List ℕ} → Puts s xs t → Puts t ys u → Puts s (xs ++ ys) u
 ◌⨾◌ {s} {t} {u} {xs} {ys} p q =
     record { state = q.state ∙ ap (λ r. put r ys) p.state ∙ put-append (state_of s) xs ys; lent = q.lent ∙ p.lent }

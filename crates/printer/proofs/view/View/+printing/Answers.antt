@@ -1,7 +1,7 @@
-use Rattle.std.proofs.Common.{◌++◌, codes, sym, ap, ◌∙◌, arith, rules}
+use Rattle.std.proofs.Common.{rules}
 use Rattle.units.proofs.Sinks.{◌⨾◌, puts_none, puts_is, puts_units}
 use Rattle.syntax.specs.Operators.{binary_of}
-use Rattle.forms.proofs.Bytes.{printed-unary, printed-binary, printed-template, printed-member, printed-index, printed-call, printed-sequence, printed_arguments_lem, printed_further_lem, printed_parts_lem}
+use Rattle.forms.proofs.Bytes.{printed-template, printed-member, printed-index, printed-call, printed-sequence, printed_arguments_lem, printed_further_lem, printed_parts_lem}
 use Rattle.printer.proofs.Reading.{parts_used, parts_low, node_parens, node_plain}
 use Rattle.printer.proofs.Operators.{binary_shown}
 use Rattle.printer.proofs.Rows.{turn}
