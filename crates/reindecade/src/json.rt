@@ -1,7 +1,7 @@
 // A text of 16-bit units as a JSON string.
 use std::alloc::{AllocError, Global};
 use std::fmt::Write;
-use units::code_point::code_point_at;
+use units::code_point::code_points;
 
 fn push_point(text: &mut String, point: u32) -> Result<(), AllocError> {
     match char::from_u32(point) {
@@ -14,10 +14,8 @@ fn push_point(text: &mut String, point: u32) -> Result<(), AllocError> {
 
 pub(crate) fn json(heap: Global, units: &[u16]) -> Result<String, AllocError> {
     let mut text = String::from_str(heap, "\"")?;
-    let mut at = 0;
-    while let Some(point) = code_point_at(units, at) {
-        push_point(&mut text, point.value)?;
-        at += point.units;
+    for point in code_points(units) {
+        push_point(&mut text, point)?;
     }
     text.push_str("\"")?;
     Ok(text)

@@ -30,9 +30,9 @@ impl Report<'_> {
     }
 
     pub(crate) fn not_opened(&mut self, error: OpenError) -> io::Result<()> {
-        match error {
-            OpenError::OutsideLimits => self.numbered("open", 1),
-            OpenError::NoMemory => println!(self.rt; "open: no memory"),
+        match error.number() {
+            Some(number) => self.numbered("open", number),
+            None => println!(self.rt; "open: no memory"),
         }
     }
 
