@@ -5,9 +5,16 @@ use Rattle.std.specs.List.{list_any}
 use Rattle.std.proofs.lemmas.List.{drop_more, at_drop_more, get_or-reverse}
 use Rattle.nodes.specs.declared.kind.Entry.{Entry}
 use Rattle.nodes.specs.declared.shape.Part.{Part}
-use Rattle.nodes.specs.Meaning.{at, has}
+use Rattle.nodes.specs.Meaning.{no_span, at, has}
 use Rattle.nodes.specs.Made.{nodes, loose, free}
-use Rattle.nodes.specs.Put.{no_part, node_at, first_of, tied, linked, tallest}
+use Rattle.nodes.specs.Put.{first_of, tied, linked, tallest}
+
+abbrev pub no_part : Part
+no_part = record { node = 0; after = no_span }
+
+-- the number of the part at i, or 0
+abbrev pub node_at : List Part → ℕ → ℕ
+node_at ps i = (get_or ps i no_part).node
 
 pub any_node : (n : ℕ) (ps : List Part) → list_any (λ p. eqb n p.node) ps ≡ has n (nodes ps)
 any_node n [] = refl

@@ -1,5 +1,5 @@
 -- How a new node is added to the entries.
-use Rattle.std.specs.Prelude.{ℕ, ◌<◌, max, All, List, [], ◌∷◌, ◌++◌, length, drop, Some, None, slice_index_or, slice_set}
+use Rattle.std.specs.Prelude.{ℕ, ◌<◌, max, All, List, [], ◌∷◌, ◌++◌, length, drop, Some, None, slice_set}
 use Rattle.units.specs.declared.span.Span.{Span}
 use Rattle.nodes.specs.declared.kind.Row.{Row}
 use Rattle.nodes.specs.declared.kind.Kind.{Kind}
@@ -9,13 +9,6 @@ use Rattle.nodes.specs.declared.shape.Part.{Part}
 use Rattle.nodes.specs.declared.shape.Shape.{Shape}
 use Rattle.nodes.specs.declared.shape.Shape.TheVariants as S
 use Rattle.nodes.specs.Meaning.{no_span, at}
-
-abbrev pub no_part : Part
-no_part = record { node = 0; after = no_span }
-
--- the number of the part at i, or 0
-abbrev pub node_at : List Part → ℕ → ℕ
-node_at ps i = (slice_index_or ps i no_part).node
 
 -- the parts name entries below n
 abbrev pub AllBelow : ℕ → List Part → Type 0

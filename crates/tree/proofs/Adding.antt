@@ -1,7 +1,6 @@
 -- A tree with a new node keeps what a tree keeps, and says what was built.
 use Rattle.std.proofs.Common.{◌≡◌, ℕ, ◌+◌, ◌<◌, Bool, true, List, length, sym, refl, ap, ◌∙◌, subst, ⊎_elim, arith}
 use Rattle.std.proofs.lemmas.Bool.{cases_eq, and_parts, and_from, le-leb}
-use Rattle.units.specs.Spans.{is_within}
 use Rattle.nodes.specs.declared.kind.Kind.{Kind}
 use Rattle.nodes.specs.declared.kind.Entry.{Entry}
 use Rattle.nodes.specs.declared.shape.Part.{Part}
@@ -11,12 +10,12 @@ use Rattle.nodes.specs.Meaning.{no_span, at}
 use Rattle.nodes.specs.Put.{kind_of, tallest, with_node}
 use Rattle.nodes.proofs.Building.{new_at, old_kind, old_after, old_parents, length_new}
 use Rattle.nodes.proofs.NewNode.{new_sound, new_held, new_single, new_others, new_stands, new_levels}
-use Rattle.tree.specs.State.{State, used, kind_fits, Fitting}
+use Rattle.tree.specs.State.{State, used, span_fits, kind_fits, Fitting}
 use Rattle.tree.proofs.Keeping.{Keeps}
 use Rattle.tree.specs.Calls.{name_listed, ShapeFits, Buildable, Built}
 
 -- the kind of a new node refers to what is there
-kind_fits_lem : (written : Bool) (a : State) (sh : Shape) (ps : List Part) → name_listed a sh ≡ true → ShapeFits written a sh → kind_fits (length a.texts.names) (length a.texts.source) (length a.texts.folded) (kind_of sh ps) ≡ true
+kind_fits_lem : (written : Bool) (a : State) (sh : Shape) (ps : List Part) → name_listed a sh ≡ true → ShapeFits written a sh → kind_fits a.texts (kind_of sh ps) ≡ true
 kind_fits_lem w a (S.Number x) ps n f = refl
 kind_fits_lem w a (S.String s) ps n f = f.1
 kind_fits_lem w a (S.Boolean b) ps n f = refl
@@ -45,19 +44,19 @@ module _ (written : Bool) (a : State) (sh : Shape) (ps : List Part) (k : Keeps a
   long : length fs ≡ used a + 1
   long = length_new a.entries (kind_of sh ps) height ps k.sound ok.1.0
 
-  fitting : Fitting fs (length a.texts.names) (length a.texts.source) (length a.texts.folded)
+  fitting : Fitting a.texts fs
   fitting n lt =
       ⊎_elim
       (λ (e : n ≡ used a).
       rw (e, new_at a.entries (kind_of sh ps) height ps k.sound ok.1.0)
-      (and_from (kind_fits (length a.texts.names) (length a.texts.source) (length a.texts.folded) (kind_of sh ps)) (is_within no_span (length a.texts.source) (length a.texts.folded))
+      (and_from (kind_fits a.texts (kind_of sh ps)) (span_fits a.texts no_span)
       (kind_fits_lem written a sh ps ok.1.1 ok.2.1) (le-leb 0 (length a.texts.source) (omega arith))))
       (λ (ne : n ≡ used a → ⊥).
       let lo : n < used a = omega (arith, long) in
-      let w = and_parts (kind_fits (length a.texts.names) (length a.texts.source) (length a.texts.folded) (at a.entries n).kind) (is_within (at a.entries n).after (length a.texts.source) (length a.texts.folded)) (k.fitting n lo) in
-      and_from (kind_fits (length a.texts.names) (length a.texts.source) (length a.texts.folded) (at fs n).kind) (is_within (at fs n).after (length a.texts.source) (length a.texts.folded))
+      let w = and_parts (kind_fits a.texts (at a.entries n).kind) (span_fits a.texts (at a.entries n).after) (k.fitting n lo) in
+      and_from (kind_fits a.texts (at fs n).kind) (span_fits a.texts (at fs n).after)
       (rw (old_kind a.entries (kind_of sh ps) height ps k.sound ok.1.0 n lo) w.0)
-      (old_after a.entries (kind_of sh ps) height ps k.sound ok.1.0 (λ s. is_within s (length a.texts.source) (length a.texts.folded) ≡ true) (λ i p l. (ok.2.2 i p l).0.1) n lo w.1))
+      (old_after a.entries (kind_of sh ps) height ps k.sound ok.1.0 (λ s. span_fits a.texts s ≡ true) (λ i p l. (ok.2.2 i p l).0.1) n lo w.1))
       (cases_eq n (used a))
 
   keeps : Keeps (with_entries a fs)

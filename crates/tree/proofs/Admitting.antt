@@ -7,7 +7,8 @@ use Rattle.nodes.specs.declared.kind.Entry.{Entry}
 use Rattle.nodes.specs.declared.shape.Part.{Part}
 use Rattle.nodes.specs.Meaning.{Texts}
 use Rattle.nodes.specs.Made.{given, deepest, nodes, free}
-use Rattle.nodes.specs.Put.{no_part, node_at, AllBelow, tallest}
+use Rattle.nodes.specs.Put.{AllBelow, tallest}
+use Rattle.nodes.proofs.Rows.{no_part, node_at}
 use Rattle.nodes.proofs.Members.{In}
 use Rattle.nodes.proofs.Building.{free_each}
 use Rattle.nodes.proofs.Levels.{tallest-deepest}

@@ -1,5 +1,4 @@
 -- What every tree keeps.
-use Rattle.std.proofs.Common.{length}
 use Rattle.nodes.specs.Meaning.{Sound, Held, Single}
 use Rattle.tree.specs.declared.store.Store.{Store}
 use Rattle.tree.specs.State.{State, used, Fitting, Levelled, Rooted}
@@ -9,7 +8,7 @@ pub record Keeps (a : State) : Type 0 where
   pub sound : Sound a.entries (used a)
   pub held : Held a.entries (used a)
   pub single : Single a.entries (used a)
-  pub fitting : Fitting a.entries (length a.texts.names) (length a.texts.source) (length a.texts.folded)
+  pub fitting : Fitting a.texts a.entries
   pub levelled : Levelled a.root a.texts a.entries
   pub rooted : Rooted a.root a.entries
 

@@ -1,13 +1,12 @@
 -- Marks, read off the entries.
-use Rattle.std.proofs.Common.{◌≡◌, ℕ, ◌<◌, Bool, true, false, not, ◌&&◌, ◌||◌, List, [], ◌∷◌, length, Some, None, Option, sym, refl, ap, ◌∙◌, arith}
+use Rattle.std.proofs.Common.{◌≡◌, ℕ, ◌<◌, Bool, true, false, not, ◌&&◌, ◌||◌, List, [], ◌∷◌, Some, None, Option, sym, refl, ap, ◌∙◌}
 use Rattle.std.specs.List.{list_all}
 use Rattle.syntax.specs.Expr.{marked}
 use Rattle.nodes.specs.declared.kind.Entry.{Entry}
 use Rattle.nodes.specs.declared.spine.Link.{Link}
 use Rattle.nodes.specs.declared.shape.Part.{Part}
 use Rattle.nodes.specs.Meaning.{Texts, at, expr, Sound}
-use Rattle.nodes.specs.Made.{given, unmarked, marked_first}
-use Rattle.nodes.specs.Put.{node_at}
+use Rattle.nodes.specs.Made.{given, unmarked}
 use Rattle.nodes.specs.Spine.{link_of}
 use Rattle.nodes.proofs.Spines.{marked_by, mean-marked, link_part}
 use Rattle.tree.proofs.Steps.{node, part}
@@ -35,11 +34,3 @@ module _ (t : Texts) (es : List Entry) (used : ℕ) (s : Sound es used) (n : ℕ
 pub all_unmarked : (t : Texts) (es : List Entry) (ps : List Part) → list_all (λ p. not (marked (expr t es p.node))) ps ≡ unmarked (given t es ps)
 all_unmarked t es [] = refl
 all_unmarked t es (p ∷ ps) = ap (λ b. not (marked (expr t es p.node)) && b) (all_unmarked t es ps)
-
-pub first_marked : (t : Texts) (es : List Entry) (ps : List Part) → (length ps ≡ 0 → ⊥) → marked_first (given t es ps) ≡ marked (expr t es (node_at ps 0))
-first_marked t es [] h = absurd (h refl)
-first_marked t es (p ∷ ps) h = refl
-
-pub none_marked : (t : Texts) (es : List Entry) (ps : List Part) → length ps ≡ 0 → marked_first (given t es ps) ≡ false
-none_marked t es [] h = refl
-none_marked t es (p ∷ ps) h = absurd (omega arith)

@@ -1,7 +1,6 @@
 -- The calls on a tree: when each is refused, and what it leaves.
 use Rattle.std.specs.Prelude.{◌≡◌, ℕ, suc, ◌<◌, ◌≤◌, Bool, true, false, cond, ◌&&◌, List, [], ◌∷◌, ◌++◌, length, drop, is_some, Some, None, Option, ◌≢◌, All, nat_lt, slice_index_or, Float}
 use Rattle.units.specs.declared.span.Span.{Span}
-use Rattle.units.specs.Spans.{is_within}
 use Rattle.template.specs.Raw.{Raw}
 use Rattle.names.specs.declared.table.Class.{Class}
 use Rattle.names.specs.declared.table.Class.TheVariants as C
@@ -18,7 +17,7 @@ use Rattle.tree.specs.declared.refusal.Refusal.{Refusal}
 use Rattle.tree.specs.declared.refusal.Refusal.TheVariants as R
 use Rattle.tree.specs.declared.refusal.OpenError.{OpenError}
 use Rattle.tree.specs.declared.refusal.OpenError.TheVariants as O
-use Rattle.tree.specs.State.{State, used, stands_for, Present}
+use Rattle.tree.specs.State.{State, used, stands_for, Present, span_fits}
 
 -- the number of a refusal in the table of `docs/REFUSALS.md`
 abbrev pub number_of : Refusal → ℕ
@@ -104,7 +103,7 @@ Found a sh ps = (free a.entries ps ≡ true) × (name_listed a sh ≡ true)
 
 -- a part of the source text
 abbrev pub InSource : State → Span → Type 0
-InSource a s = (in_source s.text ≡ true) × (is_within s (length a.texts.source) (length a.texts.folded) ≡ true)
+InSource a s = (in_source s.text ≡ true) × (span_fits a.texts s ≡ true)
 
 -- a part of the source text that is a raw part of a template
 abbrev pub RawPart : State → Span → Type 0

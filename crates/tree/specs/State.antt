@@ -1,5 +1,6 @@
 -- What a tree holds, as its calls see it.
 use Rattle.std.specs.Prelude.{◌≡◌, ℕ, ◌*◌, ◌<◌, Bool, true, ◌&&◌, List, length, Some, None, Option, nat_lt}
+use Rattle.units.specs.declared.span.Span.{Span}
 use Rattle.units.specs.Spans.{is_within}
 use Rattle.names.specs.declared.table.Class.{Class}
 use Rattle.syntax.specs.Expr.{Expr, levels}
@@ -35,25 +36,29 @@ PresentBy (Some r) es n = Reaches es r n
 abbrev pub Present : State → ℕ → Type 0
 Present a n = PresentBy a.root a.entries n
 
--- a kind refers to names and parts of texts that are there
-abbrev pub kind_fits : ℕ → ℕ → ℕ → Kind → Bool
-kind_fits names source folded K.Null = true
-kind_fits names source folded (K.Number x) = true
-kind_fits names source folded (K.String s) = is_within s source folded
-kind_fits names source folded (K.Boolean b) = true
-kind_fits names source folded (K.Name i) = nat_lt i names
-kind_fits names source folded K.EmptyArray = true
-kind_fits names source folded (K.Unary o a) = true
-kind_fits names source folded (K.Binary o a b) = true
-kind_fits names source folded (K.Template s r) = is_within s source folded
-kind_fits names source folded (K.Member a s m) = is_within s source folded
-kind_fits names source folded (K.Index a b m) = true
-kind_fits names source folded (K.Call a r m) = true
-kind_fits names source folded (K.Chain a) = true
-kind_fits names source folded (K.Sequence a r) = true
+-- a part of a text that is there
+abbrev pub span_fits : Texts → Span → Bool
+span_fits t s = is_within s (length t.source) (length t.folded)
 
-abbrev pub Fitting : List Entry → ℕ → ℕ → ℕ → Type 0
-Fitting es names source folded = (n : ℕ) → n < length es → (kind_fits names source folded (at es n).kind && is_within (at es n).after source folded) ≡ true
+-- a kind refers to names and parts of texts that are there
+abbrev pub kind_fits : Texts → Kind → Bool
+kind_fits t K.Null = true
+kind_fits t (K.Number x) = true
+kind_fits t (K.String s) = span_fits t s
+kind_fits t (K.Boolean b) = true
+kind_fits t (K.Name i) = nat_lt i (length t.names)
+kind_fits t K.EmptyArray = true
+kind_fits t (K.Unary o a) = true
+kind_fits t (K.Binary o a b) = true
+kind_fits t (K.Template s r) = span_fits t s
+kind_fits t (K.Member a s m) = span_fits t s
+kind_fits t (K.Index a b m) = true
+kind_fits t (K.Call a r m) = true
+kind_fits t (K.Chain a) = true
+kind_fits t (K.Sequence a r) = true
+
+abbrev pub Fitting : Texts → List Entry → Type 0
+Fitting t es = (n : ℕ) → n < length es → (kind_fits t (at es n).kind && span_fits t (at es n).after) ≡ true
 
 -- Until the root is named, an entry's height is four times the levels below it. The slack is for folds, which may
 -- put a deeper expression in a node's place.

@@ -26,7 +26,7 @@ pub(crate) struct Store {
     ghost sound: { Sound entries.items (length entries.items) },
     ghost held: { Held entries.items (length entries.items) },
     ghost single: { Single entries.items (length entries.items) },
-    ghost fitting: { Fitting entries.items (length (texts names)) (length source.items) (length folded.items) },
+    ghost fitting: { Fitting (record { names = texts names; source = source.items; folded = folded.items }) entries.items },
     ghost levelled: { Levelled root (record { names = texts names; source = source.items; folded = folded.items }) entries.items },
     ghost rooted: { Rooted root entries.items },
 }
