@@ -1,4 +1,4 @@
-ghost use Rattle.std.specs.Prelude.{◌≡◌, ◌<◌, MatchBool, MatchOption, MatchResult};
+ghost use Rattle.std.specs.Prelude.{◌≡◌, ◌<◌, MatchBool, OnOk, OnErr, IfOk, IfErr, OnSome, IfSome, IfNone};
 ghost use Rattle.nodes.specs.Put.{kind_of, tallest};
 ghost use Rattle.tree.specs.Calls.{Not, name_listed, InSource, RawPart, RawParts, ShapeFits, Good, Buildable, Built, BuildRefused};
 ghost use Rattle.tree.specs.Of.{state_of};
@@ -63,7 +63,9 @@ impl Store {
 
     // The kind of a new node, where all that the shape and the parts say fits.
     fn good_kind(&self, shape: Shape, parts: &[Part], written: bool) -> Option<Kind>
-        ensures { MatchOption result (Not (Good written (state_of self.now) shape parts.now)) (λ kind. Good written (state_of self.now) shape parts.now × (kind ≡ kind_of shape parts.now)) }
+        ensures good { OnSome result (Good written (state_of self.now) shape parts.now) }
+        ensures kind { IfSome result (λ kind. kind ≡ kind_of shape parts.now) }
+        ensures bad { IfNone result (Not (Good written (state_of self.now) shape parts.now)) }
     {
         let kind = kind_of(shape, parts)?;
         (self.shape_fits(shape, written) && self.are_raw(parts)).then_some(kind)
@@ -71,7 +73,11 @@ impl Store {
 
     // The kind of a new node and the height of its parts, where it may be built over them.
     fn admit(&self, shape: Shape, parts: &[Part], written: bool) -> Result<(Kind, u16), Refusal>
-        ensures { MatchResult result (λ r. Buildable written (state_of self.now) shape parts.now × (r.0 ≡ kind_of shape parts.now) × (r.1 ≡ tallest self.now.entries.items parts.now) × (r.1 < 256)) (λ e. BuildRefused written (state_of self.now) shape parts.now e) }
+        ensures buildable { OnOk result (Buildable written (state_of self.now) shape parts.now) }
+        ensures kind { IfOk result (λ r. r.0 ≡ kind_of shape parts.now) }
+        ensures height { IfOk result (λ r. r.1 ≡ tallest self.now.entries.items parts.now) }
+        ensures low { IfOk result (λ r. r.1 < 256) }
+        ensures refused { IfErr result (BuildRefused written (state_of self.now) shape parts.now) }
     {
         self.check_unrooted()?;
         if !are_free(&self.entries, parts) || !self.name_listed(shape) {
@@ -100,7 +106,9 @@ impl Store {
         parts: &[Part],
         written: bool,
     ) -> Result<u16, Refusal>
-        ensures { MatchResult result (λ n. Built written (state_of self.old) shape parts.now n (state_of self.new)) (λ e. BuildRefused written (state_of self.old) shape parts.now e × (state_of self.new ≡ state_of self.old)) }
+        ensures ok { IfOk result (λ n. Built written (state_of self.old) shape parts.now n (state_of self.new)) }
+        ensures refused { IfErr result (BuildRefused written (state_of self.old) shape parts.now) }
+        ensures unchanged { OnErr result (state_of self.new ≡ state_of self.old) }
     {
         let (kind, below) = self.admit(shape, parts, written)?;
         Ok(put(&mut self.entries, kind, below + LEVEL, parts))

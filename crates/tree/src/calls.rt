@@ -1,4 +1,4 @@
-ghost use Rattle.std.specs.Prelude.{◌≡◌, MatchResult};
+ghost use Rattle.std.specs.Prelude.{◌≡◌, OnOk, OnErr, IfOk, IfErr};
 ghost use Rattle.syntax.specs.Expr.{Expr};
 ghost use Rattle.tree.specs.Calls.{is_written, Opened, OpenRefused, Named, NameRefused, Built, BuildRefused, RootNamed, RootRefused, ReadRefused};
 ghost use Rattle.tree.specs.State.{Present, stands_for};
@@ -20,7 +20,8 @@ impl<W: NumberWriter + Drop> Tree<W> {
         source: &[u16],
         writer: W,
     ) -> Result<Tree<W>, OpenError>
-        ensures { MatchResult result (λ t. Opened entries folded source.now t) (λ e. OpenRefused entries folded source.now e) }
+        ensures ok { IfOk result (λ t. Opened entries folded source.now t) }
+        ensures refused { IfErr result (OpenRefused entries folded source.now) }
     {
         let store = Store::open(heap, entries, folded, source)?;
         Ok(Tree { store, writer })
@@ -28,7 +29,9 @@ impl<W: NumberWriter + Drop> Tree<W> {
 
     // Lists a name, and says what it is; the answer is its index.
     pub fn name(&mut self, text: &[u16], class: Class) -> Result<u16, Refusal>
-        ensures { MatchResult result (λ i. Named self.old text.now class i self.new) (λ e. NameRefused self.old text.now class e × (self.new ≡ self.old)) }
+        ensures ok { IfOk result (λ i. Named self.old text.now class i self.new) }
+        ensures refused { IfErr result (NameRefused self.old text.now class) }
+        ensures unchanged { OnErr result (self.new ≡ self.old) }
     {
         self.store.name(text, class)
     }
@@ -45,7 +48,9 @@ impl<W: NumberWriter + Drop> Tree<W> {
 
     // A new node over nodes that have no parent yet; it has the next number.
     pub fn build(&mut self, shape: Shape, parts: &[Part]) -> Result<u16, Refusal>
-        ensures { MatchResult result (λ n. Built (is_written W.NumberWriter.text shape) self.old shape parts.now n self.new) (λ e. BuildRefused (is_written W.NumberWriter.text shape) self.old shape parts.now e × (self.new ≡ self.old)) }
+        ensures ok { IfOk result (λ n. Built (is_written W.NumberWriter.text shape) self.old shape parts.now n self.new) }
+        ensures refused { IfErr result (BuildRefused (is_written W.NumberWriter.text shape) self.old shape parts.now) }
+        ensures unchanged { OnErr result (self.new ≡ self.old) }
     {
         let written = self.is_written(shape);
         self.store.build(shape, parts, written)
@@ -53,14 +58,18 @@ impl<W: NumberWriter + Drop> Tree<W> {
 
     // Names the root: the tree is what stands below it.
     pub fn root(&mut self, n: u16) -> Result<(), Refusal>
-        ensures { MatchResult result (λ _. RootNamed self.old n self.new) (λ e. RootRefused self.old n e × (self.new ≡ self.old)) }
+        ensures ok { OnOk result (RootNamed self.old n self.new) }
+        ensures refused { IfErr result (RootRefused self.old n) }
+        ensures unchanged { OnErr result (self.new ≡ self.old) }
     {
         self.store.root(n)
     }
 
     // The units of a string node, from whichever text holds them.
     pub fn read(&self, n: u16) -> Result<&[u16], Refusal>
-        ensures { MatchResult result (λ s. Present self.now n × (stands_for self.now n ≡ Expr.string s.now)) (λ e. ReadRefused self.now n e) }
+        ensures present { OnOk result (Present self.now n) }
+        ensures units { IfOk result (λ s. stands_for self.now n ≡ Expr.string s.now) }
+        ensures refused { IfErr result (ReadRefused self.now n) }
     {
         self.store.read(n)
     }

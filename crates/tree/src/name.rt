@@ -1,4 +1,4 @@
-ghost use Rattle.std.specs.Prelude.{◌≡◌, MatchResult};
+ghost use Rattle.std.specs.Prelude.{◌≡◌, OnErr, IfOk, IfErr};
 ghost use Rattle.tree.specs.Calls.{class_fits, Named, NameRefused};
 ghost use Rattle.tree.specs.Of.{state_of};
 
@@ -19,7 +19,9 @@ impl Store {
 
     // Lists a name, and says what it is; the answer is its index.
     pub(crate) fn name(&mut self, text: &[u16], class: Class) -> Result<u16, Refusal>
-        ensures { MatchResult result (λ i. Named (state_of self.old) text.now class i (state_of self.new)) (λ e. NameRefused (state_of self.old) text.now class e × (state_of self.new ≡ state_of self.old)) }
+        ensures ok { IfOk result (λ i. Named (state_of self.old) text.now class i (state_of self.new)) }
+        ensures refused { IfErr result (NameRefused (state_of self.old) text.now class) }
+        ensures unchanged { OnErr result (state_of self.new ≡ state_of self.old) }
     {
         self.check_unrooted()?;
         if !is_name(text) || !self.class_fits(class) {

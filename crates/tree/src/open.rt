@@ -1,4 +1,4 @@
-ghost use Rattle.std.specs.Result.{MatchResult};
+ghost use Rattle.std.specs.Prelude.{IfOk, IfErr};
 ghost use Rattle.tree.specs.Calls.{Opened, OpenRefused};
 ghost use Rattle.tree.specs.Of.{state_of};
 
@@ -21,10 +21,10 @@ impl Store {
         folded: usize,
         source: &[u16],
     ) -> Result<Store, OpenError>
-        ensures { MatchResult result (λ s. Opened entries folded source.now (state_of s)) (λ e. OpenRefused entries folded source.now e) }
+        ensures ok { IfOk result (λ s. Opened entries folded source.now (state_of s)) }
+        ensures refused { IfErr result (OpenRefused entries folded source.now) }
     {
-        if entries < MIN_ENTRIES
-            || entries > MAX_ENTRIES
+        if !(MIN_ENTRIES..=MAX_ENTRIES).contains(&entries)
             || folded > MAX_UNITS
             || source.len() > MAX_UNITS
         {

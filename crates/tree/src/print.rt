@@ -1,4 +1,4 @@
-ghost use Rattle.std.specs.Prelude.{◌≡◌, MatchResult};
+ghost use Rattle.std.specs.Prelude.{◌≡◌, OnErr, IfOk, IfErr};
 ghost use Rattle.tree.specs.Calls.{PrintRefused, PrintedTo};
 
 use crate::refusal::Refusal;
@@ -9,7 +9,9 @@ use writer::NumberWriter;
 impl<W: NumberWriter + Drop> Tree<W> {
     // Writes the tree's text to the front of `out`, and tells its length in bytes.
     pub fn print(&self, out: &mut [u8]) -> Result<usize, Refusal>
-        ensures { MatchResult result (λ n. PrintedTo W.NumberWriter.text self.now out.old n out.new) (λ e. PrintRefused W.NumberWriter.text self.now out.old e × (out.new ≡ out.old)) }
+        ensures ok { IfOk result (λ n. PrintedTo W.NumberWriter.text self.now out.old n out.new) }
+        ensures refused { IfErr result (PrintRefused W.NumberWriter.text self.now out.old) }
+        ensures unchanged { OnErr result (out.new ≡ out.old) }
     {
         let root = self.store.root.ok_or(Refusal::WrongTime)?;
         let view = View {

@@ -1,4 +1,4 @@
-ghost use Rattle.std.specs.Prelude.{◌≡◌, MatchResult};
+ghost use Rattle.std.specs.Prelude.{◌≡◌, OnOk, IfOk, IfErr};
 ghost use Rattle.syntax.specs.Expr.{Expr};
 ghost use Rattle.tree.specs.State.{Present, stands_for};
 ghost use Rattle.tree.specs.Calls.{ReadRefused};
@@ -11,7 +11,9 @@ use nodes::kind::Kind;
 impl Store {
     // The units of a string node, from whichever text holds them.
     pub(crate) fn read(&self, n: u16) -> Result<&[u16], Refusal>
-        ensures { MatchResult result (λ s. Present (state_of self.now) n × (stands_for (state_of self.now) n ≡ Expr.string s.now)) (λ e. ReadRefused (state_of self.now) n e) }
+        ensures present { OnOk result (Present (state_of self.now) n) }
+        ensures units { IfOk result (λ s. stands_for (state_of self.now) n ≡ Expr.string s.now) }
+        ensures refused { IfErr result (ReadRefused (state_of self.now) n) }
     {
         if !self.is_present(n) {
             return Err(Refusal::NoSuchNode);

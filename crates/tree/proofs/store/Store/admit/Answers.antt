@@ -26,8 +26,8 @@ passed c =
         ap (λ (es : List Entry). free es c.args.parts.now) (sym c.deref.ensures.value) ∙ sym c.are_free.ensures ∙ c.if-not-are_free.false,
         sym c.name_listed.ensures ∙ c.if-not-name_listed.false,
       );
-      good = fits.0;
-      kind = fits.1;
+      good = fits.good;
+      kind = fits.kind;
     }
 
 pub marks_fit-requires : goal.marks_fit-requires
@@ -44,23 +44,29 @@ fits c = sym c.marks_fit.ensures ∙ c.if-not-marks_fit.false
 height : (c : goal.After-tallest-below) → c.tallest-below.result ≡ tallest (vec_items c.args.self.now.entries) c.args.parts.now
 height c = c.tallest-below.ensures ∙ ap (λ (es : List Entry). tallest es c.args.parts.now) c.deref-2.ensures.value
 
-pub returns-then-below : goal.returns-then-below
-returns-then-below c =
+pub returns-then-below-clause-refused : goal.returns-then-below-clause-refused
+returns-then-below-clause-refused c =
     let self = c.args.self.now in
-    let w = passed (goal.at.returns-then-below c).In_ok-kind in
-    let d = (goal.at.returns-then-below c).After-tallest-below in
+    let w = passed (goal.at.returns-then-below-clause-refused c).In_ok-kind in
+    let d = (goal.at.returns-then-below-clause-refused c).After-tallest-below in
     (w.unrooted, w.found, w.good, fits d, too_deep (texts_of self) (vec_items self.entries) c.args.parts.now self.root self.levelled w.unrooted w.found.0 (let h = height d in omega arith))
 
-pub returns-then-len-self : goal.returns-then-len-self
-returns-then-len-self c =
+pub returns-then-len-self-clause-refused : goal.returns-then-len-self-clause-refused
+returns-then-len-self-clause-refused c =
     let self = c.args.self.now in
-    let w = passed (goal.at.returns-then-len-self c).In_ok-kind in
-    let d = (goal.at.returns-then-len-self c).After-tallest-below in
+    let w = passed (goal.at.returns-then-len-self-clause-refused c).In_ok-kind in
+    let d = (goal.at.returns-then-len-self-clause-refused c).After-tallest-below in
     (w.unrooted, w.found, w.good, fits d, shallow (texts_of self) (vec_items self.entries) c.args.parts.now self.root self.levelled w.unrooted w.found.0 (let h = height d in omega arith), omega arith)
 
-pub returns : goal.returns
-returns c =
+pub returns-clause-buildable : goal.returns-clause-buildable
+returns-clause-buildable c =
     let self = c.args.self.now in
-    let w = passed (goal.at.returns c).In_ok-kind in
-    let d = (goal.at.returns c).After-tallest-below in
-    ((w.unrooted, w.found, w.good, fits d, shallow (texts_of self) (vec_items self.entries) c.args.parts.now self.root self.levelled w.unrooted w.found.0 (let h = height d in omega arith), omega arith), w.kind, height d, omega arith)
+    let w = passed (goal.at.returns-clause-buildable c).In_ok-kind in
+    let d = (goal.at.returns-clause-buildable c).After-tallest-below in
+    (w.unrooted, w.found, w.good, fits d, shallow (texts_of self) (vec_items self.entries) c.args.parts.now self.root self.levelled w.unrooted w.found.0 (let h = height d in omega arith), omega arith)
+
+pub returns-clause-kind : goal.returns-clause-kind
+returns-clause-kind c = (passed (goal.at.returns-clause-kind c).In_ok-kind).kind
+
+pub returns-clause-height : goal.returns-clause-height
+returns-clause-height c = height (goal.at.returns-clause-height c).After-tallest-below

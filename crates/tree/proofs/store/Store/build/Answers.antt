@@ -9,12 +9,12 @@ use Rattle.tree.proofs.store.Store.build.Goals as goal
 use Rattle.tree.proofs.store.Store.build.Goals.{After-put}
 
 pub overflow_add-below : goal.overflow_add-below
-overflow_add-below c = let h = c.in_ok-kind.ensures.3 in omega arith
+overflow_add-below c = let h = c.in_ok-kind.ensures.low in omega arith
 
 pub put-requires : goal.put-requires
 put-requires c =
     let self = c.args.self.now in
-    let ok = c.in_ok-kind.ensures.0 in
+    let ok = c.in_ok-kind.ensures.buildable in
     record {
       room = omega (arith, ok.5, self.reserved);
       numbered = omega (arith, ok.5, self.limited);
@@ -25,14 +25,14 @@ put-requires c =
 built_once : (c : After-put) → Keeps (with_entries (state_of c.args.self.now) (vec_items c.put.new.entries)) × Built c.args.written (state_of c.args.self.now) c.args.shape c.args.parts.now (used (state_of c.args.self.now)) (with_entries (state_of c.args.self.now) (vec_items c.put.new.entries))
 built_once c =
     let a = c.in_ok-kind.ensures in
-    added c.args.written (state_of c.args.self.now) c.args.shape c.args.parts.now (kept c.args.self.now) a.0 (vec_items c.put.new.entries) c.in_ok-kind.kind c.in_ok-kind.below c.put.ensures.items a.1 a.2
+    added c.args.written (state_of c.args.self.now) c.args.shape c.args.parts.now (kept c.args.self.now) a.buildable (vec_items c.put.new.entries) c.in_ok-kind.kind c.in_ok-kind.below c.put.ensures.items a.kind a.height
 
 pub invariant_of-self : goal.invariant_of-self
 invariant_of-self c =
     let self = c.args.self.now in
     let w = (built_once c).0 in
     record {
-      within = let ok = c.in_ok-kind.ensures.0 in omega (arith, ok.5);
+      within = let ok = c.in_ok-kind.ensures.buildable in omega (arith, ok.5);
       limited = self.limited;
       reserved = omega arith;
       roomy = self.roomy;
@@ -45,5 +45,5 @@ invariant_of-self c =
       rooted = w.rooted;
     }
 
-pub returns : goal.returns
-returns c = let number : c.put.result ≡ used (state_of c.args.self.now) = omega arith in rw number (built_once (goal.at.returns c).After-put).1
+pub returns-clause-ok : goal.returns-clause-ok
+returns-clause-ok c = let number : c.put.result ≡ used (state_of c.args.self.now) = omega arith in rw number (built_once (goal.at.returns-clause-ok c).After-put).1

@@ -32,5 +32,5 @@ invariant_of-self-2 c =
     let w = (listed_once (goal.at.invariant_of-self-2 c).After-classify).0 in
     record { within = self.within; limited = self.limited; reserved = self.reserved; roomy = self.roomy; taken = self.taken; sound = w.sound; held = w.held; single = w.single; fitting = w.fitting; levelled = w.levelled; rooted = w.rooted }
 
-pub returns : goal.returns
-returns c = (listed_once (goal.at.returns c).After-classify).1
+pub returns-clause-ok : goal.returns-clause-ok
+returns-clause-ok c = (listed_once (goal.at.returns-clause-ok c).After-classify).1
