@@ -117,12 +117,11 @@ pub fn is_constant_value(value: Value, source: usize) -> bool
 {
     match value {
         Value::Number(x) => x.is_finite(),
-        Value::String(span) => match span.text {
-            Text::Source => {
-                span.start as usize + span.len as usize <= source && span.len <= MAX_STRING_UNITS
-            }
-            Text::Folded => false,
-        },
+        Value::String(span) => {
+            span.text == Text::Source
+                && span.start as usize + span.len as usize <= source
+                && span.len <= MAX_STRING_UNITS
+        }
         Value::Boolean(_) | Value::Null | Value::Undefined => true,
     }
 }
