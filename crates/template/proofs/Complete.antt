@@ -1,13 +1,13 @@
 -- The machine reads every raw part, and cooks it to its cooked text.
 use Rattle.std.proofs.Common.{◌≡◌, ℕ, suc, ◌+◌, ◌-◌, ◌*◌, ◌/◌, ◌%◌, Bool, true, false, eqb, leb, List, [], ◌∷◌, ◌++◌, Some, refl, ap, ◌∙◌, subst, ⊎_elim, add-zero, zero-add, arith}
-use Rattle.std.proofs.lemmas.Bool.{cases_Bool, both_ways, eqb-true, ne_eqb}
+use Rattle.std.proofs.lemmas.Bool.{cases_Bool, both_ways, eqb-true}
 use Rattle.std.proofs.lemmas.Bool.Decides.{nat_tests}
 use Rattle.template.specs.declared.machine.State.{State}
 use Rattle.template.specs.declared.machine.State.TheVariants.{Start, Dollar, Backslash, Zero, Unicode, Digits, Open, Braced, Lead, Bad}
 use Rattle.template.specs.declared.machine.Cooked.TheVariants.{Nothing, One, Two}
 use Rattle.template.specs.declared.machine.Step.{Step}
 use Rattle.units.specs.CodePoints.{is_lead, is_trail}
-use Rattle.template.specs.Raw.{begins, is_digit, is_line, hex_value, single_escape, utf16, Hex, Raw}
+use Rattle.template.specs.Raw.{begins, is_digit, is_line, hex_value, utf16, Hex, Raw}
 use Rattle.template.specs.Raw.Hex.{no_digit, one_more}
 use Rattle.template.specs.Raw.Raw.{end, dollar, plain, pair, continuation, single, non_escape, non_escape_pair, null, hex, unicode, code_point_escape}
 use Rattle.template.specs.Machine.{to, character, may_end, escape, code_point, stepped, units, ends, emitted}
@@ -48,9 +48,6 @@ lead_escape u h = grind (arith, nat_tests)
 line_escape : (u : ℕ) → is_line u ≡ true → escape u ≡ to Start Nothing
 line_escape u h = grind (arith, nat_tests)
 
-single_escape_lem : (u v : ℕ) → single_escape u ≡ Some v → escape u ≡ to Start (One v)
-single_escape_lem u v h = rw h
-
 -- the end of an escape by number
 finish : (s : State) (u v : ℕ) {r c : List ℕ} → stepped s u ≡ code_point v → leb v 0x10FFFF ≡ true → Runs Start r c → Runs s (u ∷ r) (utf16 v ++ c)
 finish s u v {r} {c} at h run = go (leb v 0xFFFF) refl
@@ -61,9 +58,7 @@ finish s u v {r} {c} at h run = go (leb v 0xFFFF) refl
 
 -- one more digit, with n after it still to come
 next_digit : (n v u m : ℕ) → leb v 0x10FFFF ≡ true → hex_value u ≡ Some m → stepped (Digits (suc n) v) u ≡ to (Digits n (v * 16 + m)) Nothing
-next_digit n v u m h e =
-    let one : suc n - 1 ≡ n = omega arith in
-    let more : eqb (suc n) 0 ≡ false = ne_eqb (suc n) 0 (λ z. omega arith) in rw (e, h, one, more)
+next_digit n v u m h e = grind (arith, nat_tests)
 
 -- k digits, with n after the next one still to come
 digits : {k v : ℕ} {s r c : List ℕ} → Hex k s v r → leb v 0x10FFFF ≡ true → (n : ℕ) → Runs (Digits n v) r c → Runs (Digits (n + k) 0) s c
@@ -113,7 +108,7 @@ complete (dollar h r) = follow Start 0x24 (to Dollar (One 0x24)) refl (after_dol
 complete (plain {u = u} h r) = follow Start u (to Start (One u)) (rw h) (complete r)
 complete (pair {u = u} {v = v} h k r) = follow Start u (to Lead (One u)) (lead_step u h) (trail v k (complete r))
 complete (continuation {u = u} h r) = backslash u (to Start Nothing) (line_escape u h) (complete r)
-complete (single {u = u} {v = v} h r) = backslash u (to Start (One v)) (single_escape_lem u v h) (complete r)
+complete (single {u = u} {v = v} h r) = backslash u (to Start (One v)) (rw h) (complete r)
 complete (non_escape {u = u} h r) = backslash u (to Start (One u)) (rw h) (complete r)
 complete (non_escape_pair {u = u} {v = v} h k r) = backslash u (to Lead (One u)) (lead_escape u h) (trail v k (complete r))
 complete (null h r) = backslash 0x30 (to Zero (One 0)) refl (after_zero _ h (complete r))

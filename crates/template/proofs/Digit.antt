@@ -1,7 +1,7 @@
 -- Hex digits, their values and their bounds.
 use Rattle.std.proofs.Common.{◌≡◌, ℕ, ◌+◌, ◌*◌, ◌^◌, ◌<◌, true, false, eqb, leb, List, Some, None, arith}
 use Rattle.std.proofs.Math.Nat.{pow-suc}
-use Rattle.std.proofs.lemmas.Bool.{leb-true, le-leb, ne_eqb}
+use Rattle.std.proofs.lemmas.Bool.{le-leb}
 use Rattle.std.proofs.lemmas.Bool.Decides.{nat_tests}
 use Rattle.template.specs.Raw.{hex_value, Hex}
 use Rattle.template.specs.Raw.Hex.{no_digit, one_more}
@@ -11,7 +11,7 @@ hex_below u m e = grind (arith, nat_tests)
 
 -- where the next unit is none of the digits
 pub hex_other : (u w m : ℕ) → hex_value w ≡ None → hex_value u ≡ Some m → eqb u w ≡ false
-hex_other u w m none some = ne_eqb u w (λ e. let z : ◌≡◌ {A = ℕ} 0 1 = cc in omega arith)
+hex_other u w m none some = grind (arith, nat_tests)
 
 below_power : {n v : ℕ} {s r : List ℕ} → Hex n s v r → v < 16 ^ n
 below_power no_digit = omega arith
@@ -26,7 +26,7 @@ four_below d = le-leb _ _ (omega (arith, below_power d))
 
 -- a value within the code points was so before its last digit
 pub leb_shorter : (v m limit : ℕ) → leb (v * 16 + m) limit ≡ true → leb v limit ≡ true
-leb_shorter v m limit h = let k = leb-true _ _ h in le-leb _ _ (omega arith)
+leb_shorter v m limit h = grind (arith, nat_tests)
 
 pub leb_below : (v : ℕ) → leb v 0xFFFF ≡ true → leb v 0x10FFFF ≡ true
-leb_below v h = let k = leb-true _ _ h in le-leb _ _ (omega arith)
+leb_below v h = grind (arith, nat_tests)

@@ -1,6 +1,7 @@
 -- What the machine reads to an end is a raw part, and what it cooks is its cooked text.
 use Rattle.std.proofs.Common.{◌≡◌, ℕ, suc, ◌+◌, ◌-◌, ◌*◌, ◌/◌, ◌%◌, true, false, cond, eqb, leb, List, [], ◌∷◌, ◌++◌, Some, None, Option, sym, refl, ap, ◌∙◌, subst, arith}
-use Rattle.std.proofs.lemmas.Bool.{both_ways, eqb-true, eqb-false, cond_both, false≢true}
+use Rattle.std.proofs.lemmas.Bool.{eqb-true, eqb-false, cond_both, false≢true}
+use Rattle.std.proofs.lemmas.Bool.Decides.{nat_tests}
 use Rattle.template.specs.declared.machine.State.{State}
 use Rattle.template.specs.declared.machine.State.TheVariants.{Start, Dollar, Backslash, Zero, Unicode, Digits, Open, Braced, Lead, Bad}
 use Rattle.template.specs.declared.machine.Cooked.TheVariants.{One}
@@ -89,9 +90,7 @@ module _ (u : ℕ) (us c : List ℕ) where
       (λ _ r. absurd r))
 
   grown_near : (x v m : ℕ) → Near x v → Near (cond (leb x 0x10FFFF) (x * 16 + m) x) (v * 16 + m)
-  grown_near x v m near =
-      cond_both (leb x 0x10FFFF) _ _ (λ y. Near y (v * 16 + m)) (λ e _. ap (λ y. y * 16 + m) (near e))
-      (λ e h. absurd (both_ways _ e h))
+  grown_near x v m near h = grind (arith, nat_tests, near)
 
   by_fixed : (n x : ℕ) → Back (Rest (Digits n x) (u ∷ us)) (fixed n (grown x (hex_value u)))
   by_fixed n x = go (hex_value u) refl
