@@ -1,13 +1,14 @@
 -- The machine reads every raw part, and cooks it to its cooked text.
-use Rattle.std.proofs.Common.{◌≡◌, ℕ, suc, ◌+◌, ◌-◌, ◌*◌, ◌/◌, ◌%◌, Bool, true, false, eqb, leb, List, [], ◌∷◌, ◌++◌, Some, refl, ap, ◌∙◌, subst, ⊎_elim, add-zero, zero-add, arith}
+use Rattle.std.proofs.Common.{◌≡◌, ℕ, suc, ◌+◌, ◌-◌, ◌*◌, ◌/◌, ◌%◌, Bool, true, false, eqb, leb, ltb, List, [], ◌∷◌, ◌++◌, Some, refl, ap, ◌∙◌, subst, ⊎_elim, add-zero, zero-add, arith}
 use Rattle.std.proofs.lemmas.Bool.{cases_Bool, both_ways, eqb-true}
 use Rattle.std.proofs.lemmas.Bool.Decides.{nat_tests}
 use Rattle.template.specs.declared.machine.State.{State}
 use Rattle.template.specs.declared.machine.State.TheVariants.{Start, Dollar, Backslash, Zero, Unicode, Digits, Open, Braced, Lead, Bad}
 use Rattle.template.specs.declared.machine.Cooked.TheVariants.{Nothing, One, Two}
 use Rattle.template.specs.declared.machine.Step.{Step}
+use Rattle.std.specs.Char.Escape.{encode_utf16}
 use Rattle.units.specs.CodePoints.{is_lead, is_trail}
-use Rattle.template.specs.Raw.{begins, is_digit, is_line, hex_value, utf16, Hex, Raw}
+use Rattle.template.specs.Raw.{begins, is_digit, is_line, hex_value, Hex, Raw}
 use Rattle.template.specs.Raw.Hex.{no_digit, one_more}
 use Rattle.template.specs.Raw.Raw.{end, dollar, plain, pair, continuation, single, non_escape, non_escape_pair, null, hex, unicode, code_point_escape}
 use Rattle.template.specs.Machine.{to, character, may_end, escape, code_point, stepped, units, ends, emitted}
@@ -49,10 +50,10 @@ line_escape : (u : ℕ) → is_line u ≡ true → escape u ≡ to Start Nothing
 line_escape u h = grind (arith, nat_tests)
 
 -- the end of an escape by number
-finish : (s : State) (u v : ℕ) {r c : List ℕ} → stepped s u ≡ code_point v → leb v 0x10FFFF ≡ true → Runs Start r c → Runs s (u ∷ r) (utf16 v ++ c)
-finish s u v {r} {c} at h run = go (leb v 0xFFFF) refl
+finish : (s : State) (u v : ℕ) {r c : List ℕ} → stepped s u ≡ code_point v → leb v 0x10FFFF ≡ true → Runs Start r c → Runs s (u ∷ r) (encode_utf16 v ++ c)
+finish s u v {r} {c} at h run = go (ltb v 0x10000) refl
   where
-    go : (b : Bool) → leb v 0xFFFF ≡ b → Runs s (u ∷ r) (utf16 v ++ c)
+    go : (b : Bool) → ltb v 0x10000 ≡ b → Runs s (u ∷ r) (encode_utf16 v ++ c)
     go true e = rw e (follow s u (to Start (One v)) (at ∙ rw e) run)
     go false e = rw e (follow s u (to Start (Two (0xD800 + (v - 0x10000) / 0x400) (0xDC00 + (v - 0x10000) % 0x400))) (at ∙ rw (e, h)) run)
 
@@ -69,7 +70,7 @@ digits {s = s} {c = c} (one_more {n = k} {v = v} {u = u} {m = m} d e) h n run =
     subst (λ i. Runs (Digits i 0) s c) count
     (digits d low (suc n) (follow (Digits (suc n) v) u (to (Digits n (v * 16 + m)) Nothing) (next_digit n v u m low e) run))
 
-all_digits : {k v : ℕ} {s r c : List ℕ} → Hex (suc k) s v r → leb v 0xFFFF ≡ true → Runs Start r c → Runs (Digits k 0) s (v ∷ c)
+all_digits : {k v : ℕ} {s r c : List ℕ} → Hex (suc k) s v r → ltb v 0x10000 ≡ true → Runs Start r c → Runs (Digits k 0) s (v ∷ c)
 all_digits {k = k} {s = s} {c = c} (one_more {v = v} {u = u} {m = m} d e) h run =
     let whole = leb_below _ h in
     let low = leb_shorter v m _ whole in

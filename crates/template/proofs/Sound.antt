@@ -1,13 +1,14 @@
 -- What the machine reads to an end is a raw part, and what it cooks is its cooked text.
-use Rattle.std.proofs.Common.{◌≡◌, ℕ, suc, ◌+◌, ◌-◌, ◌*◌, ◌/◌, ◌%◌, true, false, cond, eqb, leb, List, [], ◌∷◌, ◌++◌, Some, None, Option, sym, refl, ap, ◌∙◌, subst, arith}
+use Rattle.std.proofs.Common.{◌≡◌, ℕ, suc, ◌+◌, ◌-◌, ◌*◌, ◌/◌, ◌%◌, true, false, cond, eqb, leb, ltb, List, [], ◌∷◌, ◌++◌, Some, None, Option, sym, refl, ap, ◌∙◌, subst, arith}
 use Rattle.std.proofs.lemmas.Bool.{eqb-true, eqb-false, cond_both, false≢true}
 use Rattle.std.proofs.lemmas.Bool.Decides.{nat_tests}
 use Rattle.template.specs.declared.machine.State.{State}
 use Rattle.template.specs.declared.machine.State.TheVariants.{Start, Dollar, Backslash, Zero, Unicode, Digits, Open, Braced, Lead, Bad}
 use Rattle.template.specs.declared.machine.Cooked.TheVariants.{One}
 use Rattle.template.specs.declared.machine.Step.{Step}
+use Rattle.std.specs.Char.Escape.{encode_utf16}
 use Rattle.units.specs.CodePoints.{is_lead, is_trail}
-use Rattle.template.specs.Raw.{begins, is_digit, is_plain, is_non_escape, is_line, hex_value, single_escape, utf16, Hex, Raw}
+use Rattle.template.specs.Raw.{begins, is_digit, is_plain, is_non_escape, is_line, hex_value, single_escape, Hex, Raw}
 use Rattle.template.specs.Raw.Hex.{no_digit, one_more}
 use Rattle.template.specs.Raw.Raw.{end, dollar, plain, pair, continuation, single, non_escape, non_escape_pair, null, hex, unicode, code_point_escape}
 use Rattle.template.specs.Machine.{to, simple, character, escape, fixed, braced, code_point, grown, stepped, units, ends, emitted}
@@ -24,7 +25,7 @@ record Counted (n : ℕ) (s c : List ℕ) : Type 0 where
   later : List ℕ
   digits : Hex n s value left
   raw : Raw left later
-  is : c ≡ utf16 value ++ later
+  is : c ≡ encode_utf16 value ++ later
 
 -- what the rest of a text and of its cooked text are, read from that state on
 abbrev Rest : State → List ℕ → List ℕ → Type 0
@@ -62,7 +63,7 @@ module _ (u : ℕ) (us c : List ℕ) where
   as_hex : Counted 2 us c → Raw (0x5C ∷ 0x78 ∷ us) c
   as_hex k =
       let small = two_below k.digits in
-      let one : utf16 k.value ++ k.later ≡ k.value ∷ k.later = rw small in
+      let one : encode_utf16 k.value ++ k.later ≡ k.value ∷ k.later = rw small in
       subst (Raw (0x5C ∷ 0x78 ∷ us)) (sym (k.is ∙ one)) (hex k.digits k.raw)
 
   by_escape : Back (Raw (0x5C ∷ u ∷ us)) (escape u)
@@ -78,14 +79,14 @@ module _ (u : ℕ) (us c : List ℕ) where
       cond_both (eqb u 0x75) _ _ P (λ e r. at 0x75 c e r) (λ _.
       cond_both (is_lead u) _ _ P (λ e r. (r u e).1) (λ _ r. absurd r)))))))
 
-  by_code_point : (f : List ℕ → Type 0) (x : ℕ) → (leb x 0x10FFFF ≡ true → Raw us c → f (utf16 x ++ c)) → Back f (code_point x)
+  by_code_point : (f : List ℕ → Type 0) (x : ℕ) → (leb x 0x10FFFF ≡ true → Raw us c → f (encode_utf16 x ++ c)) → Back f (code_point x)
   by_code_point f x g =
-      cond_both (leb x 0xFFFF) _ _ (Back f)
-      (λ e r. let one : utf16 x ++ c ≡ x ∷ c = rw e in subst f one (g (leb_below x e) r))
+      cond_both (ltb x 0x10000) _ _ (Back f)
+      (λ e r. let one : encode_utf16 x ++ c ≡ x ∷ c = rw e in subst f one (g (leb_below x e) r))
       (λ e.
       cond_both (leb x 0x10FFFF) _ _ (Back f)
       (λ h r.
-      let two : utf16 x ++ c ≡ (0xD800 + (x - 0x10000) / 0x400) ∷ ((0xDC00 + (x - 0x10000) % 0x400) ∷ c) = rw e in
+      let two : encode_utf16 x ++ c ≡ (0xD800 + (x - 0x10000) / 0x400) ∷ ((0xDC00 + (x - 0x10000) % 0x400) ∷ c) = rw e in
       subst f two (g h r))
       (λ _ r. absurd r))
 
@@ -110,7 +111,7 @@ module _ (u : ℕ) (us c : List ℕ) where
             later = c;
             digits = subst (λ i. Hex i s (v * 16 + m) us) count (one_more d e);
             raw = r;
-            is = ap (λ t. utf16 t ++ c) (grown_near x v m near h);
+            is = ap (λ t. encode_utf16 t ++ c) (grown_near x v m near h);
           }))
           (λ z r k v s near d.
           let more = eqb-false n 0 z in
@@ -121,7 +122,7 @@ module _ (u : ℕ) (us c : List ℕ) where
   by_unicode r =
       let k = by_fixed 3 0 r 0 0 (u ∷ us) (λ _. refl) no_digit in
       let small = four_below k.digits in
-      let one : utf16 k.value ++ k.later ≡ k.value ∷ k.later = rw small in
+      let one : encode_utf16 k.value ++ k.later ≡ k.value ∷ k.later = rw small in
       subst (Raw (0x5C ∷ 0x75 ∷ u ∷ us)) (sym (k.is ∙ one)) (unicode k.digits k.raw)
 
   by_braced : (x k v : ℕ) (s : List ℕ) → Near x v → Hex k s v (u ∷ us) → Back (Raw (0x5C ∷ 0x75 ∷ 0x7B ∷ s)) (braced (grown x (hex_value u)))
@@ -138,7 +139,7 @@ module _ (u : ℕ) (us c : List ℕ) where
       let is = near h in
       let ok : leb v 0x10FFFF ≡ true = subst (λ y. leb y 0x10FFFF ≡ true) is h in
       let ds : Hex (suc k) s v (0x7D ∷ us) = subst (λ w. Hex (suc k) s v (w ∷ us)) (eqb-true u 0x7D e) d in
-      subst (λ y. Raw (0x5C ∷ 0x75 ∷ 0x7B ∷ s) (utf16 y ++ c)) (sym is) (code_point_escape ds ok r))
+      subst (λ y. Raw (0x5C ∷ 0x75 ∷ 0x7B ∷ s) (encode_utf16 y ++ c)) (sym is) (code_point_escape ds ok r))
 
   back : (s : State) → Back (Rest s (u ∷ us)) (stepped s u)
   back Start = by_character

@@ -1,6 +1,6 @@
 -- The machine that reads a raw part unit by unit, for the contracts of the private functions.
 -- The public contracts speak of Raw alone.
-use Rattle.std.specs.Prelude.{ℕ, ◌+◌, ◌-◌, ◌*◌, ◌/◌, ◌%◌, Bool, true, false, cond, List, [], ◌∷◌, ◌++◌, length, slice_set, Some, None, Option, ◌==◌, nat_le}
+use Rattle.std.specs.Prelude.{ℕ, ◌+◌, ◌-◌, ◌*◌, ◌/◌, ◌%◌, Bool, true, false, cond, List, [], ◌∷◌, ◌++◌, length, slice_set, Some, None, Option, ◌==◌, nat_le, nat_lt}
 use Rattle.template.specs.declared.machine.State.{State}
 use Rattle.template.specs.declared.machine.State.TheVariants.{Start, Dollar, Backslash, Zero, Unicode, Digits, Open, Braced, Lead, Bad}
 use Rattle.template.specs.declared.machine.Cooked.{Cooked}
@@ -42,7 +42,7 @@ grown v (Some m) = Some (cond (nat_le v 0x10FFFF) (v * 16 + m) v)
 
 abbrev pub code_point : ℕ → Step
 code_point v =
-    cond (nat_le v 0xFFFF) (to Start (One v))
+    cond (nat_lt v 0x10000) (to Start (One v))
     (cond (nat_le v 0x10FFFF) (to Start (Two (0xD800 + (v - 0x10000) / 0x400) (0xDC00 + (v - 0x10000) % 0x400))) bad)
 
 abbrev pub fixed : ℕ → Option ℕ → Step

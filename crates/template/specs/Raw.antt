@@ -1,7 +1,8 @@
 -- ECMA-262, 12.9.6 Template Literal Lexical Components: the raw text between the backticks and
 -- substitutions of a template, as 16-bit code units, and its cooked text (TV, 12.9.6.1).
 -- Valid escapes only (no NotEscapeSequence), no carriage return, no lone surrogate.
-use Rattle.std.specs.Prelude.{◌≡◌, ℕ, suc, ◌+◌, ◌-◌, ◌*◌, ◌/◌, ◌%◌, Bool, true, false, cond, not, ◌&&◌, ◌||◌, List, [], ◌∷◌, ◌++◌, is_some, Some, None, Option, ◌==◌, nat_eq, nat_le}
+use Rattle.std.specs.Prelude.{◌≡◌, ℕ, suc, ◌+◌, ◌-◌, ◌*◌, Bool, true, false, cond, not, ◌&&◌, ◌||◌, List, [], ◌∷◌, ◌++◌, is_some, Some, None, Option, ◌==◌, nat_eq, nat_le}
+use Rattle.std.specs.Char.Escape.{encode_utf16}
 use Rattle.units.specs.CodePoints.{is_lead, is_trail}
 
 abbrev pub within : ℕ → ℕ → ℕ → Bool
@@ -56,12 +57,6 @@ is_escape u = is_some (single_escape u) || is_digit u || one_of u (0x78 ∷ 0x75
 abbrev pub is_non_escape : ℕ → Bool
 is_non_escape u = not (is_escape u) && not (is_line u || is_return u || is_lead u || is_trail u)
 
--- 11.1.1 UTF16EncodeCodePoint
-abbrev pub utf16 : ℕ → List ℕ
-utf16 cp =
-    cond (nat_le cp 0xFFFF) (cp ∷ [])
-    ((0xD800 + (cp - 0x10000) / 0x400) ∷ (0xDC00 + (cp - 0x10000) % 0x400) ∷ [])
-
 -- `Hex n s v r`: the text s is n hex digits with the MV v, and then r.
 -- The MV of HexDigits HexDigit is 16 times the MV of HexDigits, plus the MV of HexDigit.
 pub data Hex : ℕ → List ℕ → ℕ → List ℕ → Type 0 where
@@ -92,6 +87,6 @@ pub data Raw : List ℕ → List ℕ → Type 0 where
   hex : {v : ℕ} {s r c : List ℕ} → Hex 2 s v r → Raw r c → Raw (0x5C ∷ 0x78 ∷ s) (v ∷ c)
   -- \ u Hex4Digits
   unicode : {v : ℕ} {s r c : List ℕ} → Hex 4 s v r → Raw r c → Raw (0x5C ∷ 0x75 ∷ s) (v ∷ c)
-  -- \ u { CodePoint }, CodePoint :: HexDigits but only if its MV ≤ 0x10FFFF
+  -- \ u { CodePoint }, CodePoint :: HexDigits but only if its MV ≤ 0x10FFFF: its UTF16EncodeCodePoint, 11.1.1
   code_point_escape : {n v : ℕ} {s r c : List ℕ} → Hex (suc n) s v (0x7D ∷ r) → nat_le v 0x10FFFF ≡ true → Raw r c →
-      Raw (0x5C ∷ 0x75 ∷ 0x7B ∷ s) (utf16 v ++ c)
+      Raw (0x5C ∷ 0x75 ∷ 0x7B ∷ s) (encode_utf16 v ++ c)
