@@ -3,14 +3,15 @@
 -- Valid escapes only (no NotEscapeSequence), no carriage return, no lone surrogate.
 use Rattle.std.specs.Prelude.{◌≡◌, ℕ, suc, ◌+◌, ◌-◌, ◌*◌, Bool, true, false, cond, not, ◌&&◌, ◌||◌, List, [], ◌∷◌, ◌++◌, is_some, Some, None, Option, ◌==◌, nat_eq, nat_le}
 use Rattle.std.specs.Char.Escape.{encode_utf16}
+use Rattle.std.specs.List.{list_any}
+use Rattle.std.specs.Map.{lookup}
 use Rattle.units.specs.CodePoints.{is_lead, is_trail}
 
 abbrev pub within : ℕ → ℕ → ℕ → Bool
 within low high u = nat_le low u && nat_le u high
 
 abbrev pub one_of : ℕ → List ℕ → Bool
-one_of u [] = false
-one_of u (v ∷ vs) = u == v || one_of u vs
+one_of u vs = list_any (λ v. u == v) vs
 
 -- the text begins with a unit that passes the test
 abbrev pub begins : (ℕ → Bool) → List ℕ → Bool
@@ -39,14 +40,10 @@ hex_value u =
     cond (within 0x30 0x39 u) (Some (u - 0x30))
     (cond (within 0x41 0x46 u) (Some (u - 0x37)) (cond (within 0x61 0x66 u) (Some (u - 0x57)) None))
 
-abbrev pub look_up : ℕ → List (ℕ × ℕ) → Option ℕ
-look_up u [] = None
-look_up u (row ∷ rows) = cond (u == row.0) (Some row.1) (look_up u rows)
-
 -- 12.9.4.2, String Single Character Escape Sequences: b t n v f r " ' \
 abbrev pub single_escape : ℕ → Option ℕ
 single_escape u =
-    look_up u
+    lookup (λ v. u == v)
     ((0x62, 0x08) ∷ (0x74, 0x09) ∷ (0x6E, 0x0A) ∷ (0x76, 0x0B) ∷ (0x66, 0x0C) ∷ (0x72, 0x0D) ∷ (0x22, 0x22) ∷ (0x27, 0x27) ∷ (0x5C, 0x5C) ∷ [])
 
 -- 12.9.4 EscapeCharacter: SingleEscapeCharacter, DecimalDigit, x, u
