@@ -69,7 +69,7 @@ impl Report<'_> {
         call: Call,
     ) -> io::Result<()> {
         match call {
-            Call::Open { .. } => Ok(()),
+            Call::Open { .. } => Ok(()), // the session opens trees
             Call::Name { text, class } => match tree.name(&text, class) {
                 Ok(index) => println!(self.rt; "name: 0 index {index}"),
                 Err(refusal) => self.refused("name", refusal),

@@ -53,15 +53,15 @@ impl<'a> Session<'a> {
         match parse(self.report.rt.alloc(), line) {
             Ok(None) => Ok(()),
             Ok(Some(call)) => self.perform(call),
-            Err(Fault::Malformed(expected)) => self.no_call(expected),
             Err(Fault::NoMemory) => Err(io::Error::from(AllocError)),
+            Err(fault) => self.no_call(fault),
         }
     }
 
-    // Says what stands in the place of the line's call, and counts the line.
-    fn no_call(&mut self, expected: impl Display + Drop) -> io::Result<()> {
+    // Says why the line is not performed, and counts it.
+    fn no_call(&mut self, reason: impl Display + Drop) -> io::Result<()> {
         self.bad = self.bad.saturating_add(1);
-        println!(self.report.rt; "line {}: expected {expected}", self.lines)
+        println!(self.report.rt; "line {}: {reason}", self.lines)
     }
 
     fn perform(&mut self, call: Call) -> io::Result<()> {
@@ -75,7 +75,7 @@ impl<'a> Session<'a> {
             return self.open(entries, folded, writer, &source);
         }
         match &mut self.tree {
-            None => self.no_call("`open`, since no tree is open"),
+            None => self.no_call("expected `open`, since no tree is open"),
             Some(OpenTree::Plain(tree)) => self.report.perform(tree, call),
             Some(OpenTree::Short(tree)) => self.report.perform(tree, call),
         }
