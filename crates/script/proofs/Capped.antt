@@ -1,10 +1,9 @@
 -- Counting no further than the largest `usize` leaves what counts as that.
-use Rattle.std.proofs.Common.{◌≡◌, ℕ, ◌+◌, ◌-◌, ◌*◌, ◌^◌, ◌<◌, ◌≤◌, min, Bool, true, false, cond, eqb, List, [], ◌∷◌, length, get_or, drop, Some, None, Option, sym, refl, ap, ◌∙◌, arith}
+use Rattle.std.proofs.Common.{◌≡◌, ℕ, ◌+◌, ◌-◌, ◌*◌, ◌^◌, ◌<◌, min, Bool, true, false, cond, List, [], ◌∷◌, length, get_or, drop, None, Option, sym, refl, ap, ◌∙◌, arith}
 use Rattle.std.specs.Option.{option_map}
 use Rattle.std.specs.Char.{is_ascii_digit}
-use Rattle.std.proofs.lemmas.List.{at_drop_more, at_drop_all}
-use Rattle.std.proofs.lemmas.Bool.{true≢false}
-use Rattle.script.specs.Numbers.{value_after, integer_of}
+use Rattle.std.proofs.lemmas.List.{at_drop_more}
+use Rattle.script.specs.Numbers.{value_after}
 
 abbrev pub capped : Option ℕ → Option ℕ
 capped = option_map (λ n. min n (2 ^ 64 - 1))

@@ -1,14 +1,12 @@
 -- Texts read character by character.
-use Rattle.std.proofs.Common.{◌≡◌, ℕ, ◌<◌, ◌≤◌, ◌≢◌, List, [], ◌∷◌, ◌++◌, length, IfSome, IfOk, Some, None, Option, Ok, Err, Result, inl, inr, Vec, vec_items, refl, sym, ap, ◌∙◌, subst, append_assoc, append-nil, arith, length-append}
-use lib.Utf8.{encode}
-use Rattle.std.proofs.lemmas.Str.{length-encode, len_utf8_bounds}
+use Rattle.std.proofs.Common.{◌≡◌, ℕ, ◌≤◌, ◌≢◌, List, [], ◌∷◌, ◌++◌, length, IfSome, IfOk, Some, None, Option, Ok, Err, Result, inl, inr, Vec, vec_items, refl, sym, ap, ◌∙◌, subst, append_assoc, append-nil}
 use Rattle.std.specs.Char.Escape.{encode_utf16}
 use Rattle.std.specs.Iterator.{Yields}
 use Rattle.std.specs.Str.Iter.{encode_utf16_rest, encode_utf16_pending, encode_utf16_steps}
 use Rattle.std.specs.declared.str.EncodeUtf16.{EncodeUtf16}
 use Rattle.std.proofs.lemmas.Iterator.{IsCollectResult}
 use Rattle.std.proofs.lemmas.List.{nil_from_length}
-use Rattle.script.specs.Units.{Begins, Spelt, Hex, HexUnit, short_escape, Escape, Json}
+use Rattle.script.specs.Units.{Begins, Spelt, HexUnit, short_escape, Escape, Json}
 
 pub weaker : {X : Type 0} {P Q : X → Type 0} (r : Option X) → IfSome r P → ((x : X) → P x → Q x) → IfSome r Q
 weaker None h f = tt

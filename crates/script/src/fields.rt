@@ -98,6 +98,7 @@ impl<'a> Fields<'a> {
         node(self.field(Expected::Node)?)
     }
 
+    // The operator that the next word writes.
     pub(crate) fn operator<O: FromStr + Drop>(&mut self, expected: Expected) -> Result<O, Expected>
     where
         O::Err: Drop,
@@ -162,7 +163,8 @@ impl<'a> Fields<'a> {
         Ok(parts)
     }
 
-    // A template's substitutions, each with the raw part that follows it.
+    // A template's substitutions, each with the raw part that follows it. The loop is not one with that
+    // above: a closure that reads what follows, with its contract, is longer than the two lines.
     pub(crate) fn substitutions(&mut self) -> Result<Vec<Part>, Fault>
         ensures { IfOk result (λ parts. ArePartsInSource parts.items) }
     {

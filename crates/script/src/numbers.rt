@@ -21,10 +21,13 @@ pub(crate) fn integer(word: &str) -> Result<usize, Expected>
         }
         value = value
             .saturating_mul(10)
-            .saturating_add((*digit - b'0') as usize);
+            .saturating_add(usize::from(*digit - b'0'));
     }
     Ok(value)
 }
+
+// The two below differ in their type. One generic form would need a law that says what `try_from`
+// takes at each type, and a bound of each result: longer than these.
 
 // A node's number. There is no node of the number `u16::MAX`.
 pub(crate) fn node(word: &str) -> Result<u16, Expected>
