@@ -4,34 +4,16 @@ use lib.Ieee.{Float}
 use lib.Utf8.{encode, encodes}
 use Rattle.std.proofs.lemmas.Str.{encodes-append}
 use Rattle.syntax.specs.Expr.{Expr, Exprs, Parts}
-use Rattle.syntax.specs.Operators.{Un, Bin, Numeric, Relation, Equality, un_text, bin_text, numeric_text, relation_text, equality_text}
+use Rattle.syntax.specs.Operators.{Bin, Numeric, Relation, Equality, bin_text, numeric_text, relation_text, equality_text}
 use Rattle.forms.specs.declared.parens.Place.{Place}
 use Rattle.forms.specs.declared.parens.Place.TheVariants.{Argument, Operand, Object}
 use Rattle.units.specs.CodePoints.{code_points}
 use Rattle.forms.specs.Form.{spell, spell_parts}
 use Rattle.forms.specs.Parens.{parens, in_parens, shape}
-use Rattle.forms.specs.Show.{show, show_parts, truth, space, dot, mark}
+use Rattle.forms.specs.Show.{show, show_parts, dot, mark}
 use Rattle.forms.specs.Printed.{printed, printed_at, printed_arguments, printed_further, printed_parts}
 
 -- ---- punctuation is ASCII
-
-pub un_bytes : (o : Un) → encodes (un_text o) ≡ un_text o
-unfolding encode
-un_bytes Un.minus = refl
-un_bytes Un.plus = refl
-un_bytes Un.not = refl
-un_bytes Un.bit_not = refl
-un_bytes Un.typeof = refl
-un_bytes Un.void = refl
-
-pub space_bytes : (o : Un) → encodes (space o) ≡ space o
-unfolding encode
-space_bytes Un.minus = refl
-space_bytes Un.plus = refl
-space_bytes Un.not = refl
-space_bytes Un.bit_not = refl
-space_bytes Un.typeof = refl
-space_bytes Un.void = refl
 
 numeric_bytes : (o : Numeric) → encodes (numeric_text o) ≡ numeric_text o
 unfolding encode
@@ -98,23 +80,6 @@ module _ (w : Float → Option (List ℕ)) where
 
   pub printed_plain : (p : Place) (e : Expr) → in_parens p (shape (spell e)) ≡ false → printed_at w p e ≡ printed w e
   printed_plain p e f = printed_at_lem p e ∙ ap (λ b. parens b (printed w e)) f
-
-  -- a string, a name and a chain compute
-  pub printed-boolean : (b : Bool) → printed w (Expr.boolean b) ≡ truth b
-  unfolding encode
-  printed-boolean true = refl
-  printed-boolean false = refl
-
-  pub printed-null : printed w Expr.null ≡ codes "null"
-  unfolding encode
-  printed-null = refl
-
-  pub printed-array : printed w Expr.array ≡ codes "[]"
-  unfolding encode
-  printed-array = refl
-
-  pub printed-unary : (o : Un) (e : Expr) → printed w (Expr.unary o e) ≡ un_text o ++ space o ++ printed_at w Operand e
-  printed-unary o e = simp (encodes-append, un_bytes, space_bytes)
 
   pub printed-binary : (o : Bin) (e f : Expr) → printed w (Expr.binary o e f) ≡ printed_at w Operand e ++ bin_text o ++ printed_at w Operand f
   printed-binary o e f = simp (encodes-append, bin_bytes)

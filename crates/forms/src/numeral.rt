@@ -1,6 +1,6 @@
 ghost use Rattle.std.specs.Prelude.{◌≡◌, ℕ, List, Option, Float};
 ghost use Rattle.syntax.specs.Expr.{Expr};
-ghost use Rattle.units.specs.Sinks.{Puts};
+ghost use Rattle.units.specs.Sinks.{lender_of, Puts};
 ghost use Rattle.forms.specs.Form.{spell_number};
 ghost use Rattle.forms.specs.Parens.{shape};
 ghost use Rattle.forms.specs.Numerals.{Gives};
@@ -26,7 +26,8 @@ pub fn number_shape(x: f64) -> Shape
 // Puts a number by itself. `magnitude` is the number writer's text for the magnitude of a finite one.
 #[tactic(auto, using(crate::proofs::Numerals::texts))]
 pub fn number(sink: &mut Sink, x: f64, magnitude: &[u8])
-    ensures { (w : Float → Option (List ℕ)) → Gives w x magnitude.now → Puts sink.old (printed w (Expr.number x)) sink.new }
+    ensures text { (w : Float → Option (List ℕ)) → Gives w x magnitude.now → Puts sink.old (printed w (Expr.number x)) sink.new }
+    ensures lent { lender_of sink.new ≡ lender_of sink.old }
 {
     if x.is_nan() {
         sink.bytes(b"NaN");

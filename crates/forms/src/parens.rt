@@ -3,7 +3,7 @@ ghost use Rattle.forms.specs.Parens.{in_parens};
 
 // Where an expression can stand. The whole text, an index's key and a template's substitution are bare;
 // an object is that of a member or an index; all other parts are operands.
-#[derive(Clone, Copy)]
+#[derive(Clone, Copy, Debug, PartialEq, Eq)]
 pub enum Place {
     Bare,
     Argument,
@@ -13,7 +13,7 @@ pub enum Place {
 
 // How closely an expression's text holds together. Closed are strings, booleans, null, names, `[]`,
 // templates, members, indices and calls. Numerals stand apart, since `1.x` is no member.
-#[derive(Clone, Copy)]
+#[derive(Clone, Copy, Debug, PartialEq, Eq)]
 pub enum Shape {
     Numeral,
     Closed,

@@ -5,6 +5,9 @@ ghost use Rattle.forms.specs.Show.{prefixed, truth, dot, mark};
 
 use syntax::operators::{BinaryOperator, UnaryOperator};
 
+// Unary and binary operators share no trait: what has no text and what follows a word differ, and two impls
+// would be longer than these two functions.
+
 // The operator as it stands before its operand; None for one that no tree holds.
 pub(crate) fn unary_text(operator: UnaryOperator) -> Option<&'static [u8]>
     ensures { option_map (λ x. x.now) result ≡ option_map prefixed (unary_of operator) }

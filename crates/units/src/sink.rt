@@ -9,7 +9,7 @@ use crate::code_point::code_points;
 #[derive(Drop)]
 pub struct Sink<'a> {
     out: &'a mut [u8],
-    len: usize,
+    len: usize, // counts on past the end of `out`
 }
 
 impl<'a> Sink<'a> {
@@ -44,7 +44,8 @@ impl<'a> Sink<'a> {
         }
     }
 
-    // Puts the UTF-8 bytes of a code point, surrogates included, and nothing past the last code point.
+    // Puts the UTF-8 bytes of a code point, and nothing past the last one. They are made by hand, since
+    // surrogates have some too, and no `char` is one.
     #[tactic(auto, using(crate::proofs::Encodings::encodings))]
     pub fn code_point(&mut self, c: u32)
         ensures encoded { c < 0x110000 → Puts self.old (encode c) self.new }
