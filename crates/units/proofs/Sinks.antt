@@ -44,9 +44,11 @@ count_from : (s : List ℕ × ℕ) (bs : List ℕ) → s.1 ≤ 2 ^ 64 - 1 → (p
 count_from s [] h = omega arith
 count_from s (b ∷ bs) h = count_from (put_byte s b) bs (omega arith) ∙ omega arith
 
--- the count, whether or not the bytes fit
-pub put_count : (out bs : List ℕ) → (put (out, 0) bs).1 ≡ min (length bs) (2 ^ 64 - 1)
-put_count out bs = count_from (out, 0) bs (omega arith) ∙ ap (λ n. min n (2 ^ 64 - 1)) (zero-add (length bs))
+-- in a new sink the count, whether or not the bytes fit
+pub puts_count : {s t : Sink} {out bs : List ℕ} → state_of s ≡ (out, 0) → Puts s bs t → (state_of t).1 ≡ min (length bs) (2 ^ 64 - 1)
+puts_count {s} {t} {out} {bs} new p =
+    let e : state_of t ≡ put (out, 0) bs = p.state ∙ ap (λ r. put r bs) new in
+    ap (λ r. r.1) e ∙ count_from (out, 0) bs (omega arith) ∙ ap (λ n. min n (2 ^ 64 - 1)) (zero-add (length bs))
 
 put-sets : (out : List ℕ) (at : ℕ) (bs : List ℕ) → at + length bs < 2 ^ 64 - 1 → put (out, at) bs ≡ (sets out at bs, at + length bs)
 put-sets out at [] h = ap (λ n. (out, n)) (sym (add-zero at))
@@ -56,7 +58,10 @@ put-sets out at (b ∷ bs) h =
     rw e (put-sets (set out at b) (suc at) bs (omega arith) ∙ ap (λ k. (sets (set out at b) (suc at) bs, k)) n)
 
 -- bytes that fit stand at the front of the output
-pub put_fits : (out bs : List ℕ) → length bs ≤ length out → length bs < 2 ^ 64 - 1 → put (out, 0) bs ≡ (bs ++ drop (length bs) out, length bs)
+put_fits : (out bs : List ℕ) → length bs ≤ length out → length bs < 2 ^ 64 - 1 → put (out, 0) bs ≡ (bs ++ drop (length bs) out, length bs)
 put_fits out bs fits small =
     let e : sets out 0 bs ≡ bs ++ drop (0 + length bs) out = sets-eq bs out 0 (omega arith) in
     put-sets out 0 bs (omega arith) ∙ rw e (rw (zero-add (length bs)))
+
+pub puts_fits : {s t : Sink} {out bs : List ℕ} → state_of s ≡ (out, 0) → Puts s bs t → length bs ≤ length out → length bs < 2 ^ 64 - 1 → (state_of t).0 ≡ bs ++ drop (length bs) out
+puts_fits {s} {t} {out} {bs} new p fits small = ap (λ r. r.0) (p.state ∙ ap (λ r. put r bs) new ∙ put_fits out bs fits small)
