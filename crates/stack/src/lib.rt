@@ -4,7 +4,8 @@ ghost use Rattle.std.specs.Prelude.{◌≡◌, ◌↔◌, [], ◌∷◌, ◌++�
 
 use std::marker::Model;
 
-// A stack in a slice that the caller supplies. Its items are the first `len` of `slots`.
+// A stack in a slice that the caller supplies, as a tree's memory is taken once and a stack takes none.
+// Its items are the first `len` of `slots`.
 #[derive(Drop)]
 pub struct Stack<'a, T> {
     slots: &'a mut [T],

@@ -35,7 +35,7 @@ fn put(cooked: Cooked, start: usize, out: &mut [u16]) -> usize
 }
 
 // Writes the cooked text over the front of `out`, as far as `out` reaches, and gives its length, if
-// `raw` is a raw part.
+// `raw` is a raw part. A loop, since a proof knows nothing of what a closure writes through `out`.
 fn write_cooked(raw: &[u16], out: &mut [u16]) -> Option<usize>
     ensures length { result ≡ cooked_length raw.now }
     ensures wrote { out.new ≡ over (emitted Start raw.now) out.old }
