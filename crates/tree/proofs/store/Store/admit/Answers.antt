@@ -2,7 +2,7 @@ use Rattle.std.proofs.Common.{◌≡◌, true, List, Some, None, vec_items, sym,
 use Rattle.std.specs.Result.{result_ok}
 use Rattle.nodes.specs.declared.kind.Entry.{Entry}
 use Rattle.nodes.specs.Made.{free, marks_fit}
-use Rattle.nodes.specs.Put.{kind_of, tallest}
+use Rattle.nodes.specs.Put.{tallest}
 use Rattle.tree.specs.Calls.{Found, Good, parts}
 use Rattle.tree.specs.Of.{state_of, texts_of}
 use Rattle.tree.proofs.Admitting.{free_below, too_deep, shallow}
@@ -14,20 +14,17 @@ record Passed (c : In_ok-kind) : Type 0 where
   unrooted : c.args.self.now.root ≡ None
   found : Found (state_of c.args.self.now) c.args.shape c.args.parts.now
   good : Good c.args.written (state_of c.args.self.now) c.args.shape c.args.parts.now
-  kind : c.in_ok-kind.kind ≡ kind_of c.args.shape c.args.parts.now
 
 passed : (c : In_ok-kind) → Passed c
 passed c =
     let given : c.good_kind.result ≡ Some c.in_ok-kind.kind = c.ok_or.ensures.ok_part ∙ ap result_ok c.in_ok-kind.was in
-    let fits = rw given at c.good_kind.ensures in
     record {
       unrooted = c.in_ok-check_unrooted.ensures.ok;
       found = (
         ap (λ (es : List Entry). free es c.args.parts.now) (sym c.deref.ensures.value) ∙ sym c.are_free.ensures ∙ c.if-not-are_free.false,
         sym c.name_listed.ensures ∙ c.if-not-name_listed.false,
       );
-      good = fits.good;
-      kind = fits.kind;
+      good = (rw given at c.good_kind.ensures).good;
     }
 
 pub marks_fit-requires : goal.marks_fit-requires
@@ -64,9 +61,3 @@ returns-clause-buildable c =
     let w = passed (goal.at.returns-clause-buildable c).In_ok-kind in
     let d = (goal.at.returns-clause-buildable c).After-tallest-below in
     (w.unrooted, w.found, w.good, fits d, shallow (texts_of self) (vec_items self.entries) c.args.parts.now self.root self.levelled w.unrooted w.found.0 (let h = height d in omega arith), omega arith)
-
-pub returns-clause-kind : goal.returns-clause-kind
-returns-clause-kind c = (passed (goal.at.returns-clause-kind c).In_ok-kind).kind
-
-pub returns-clause-height : goal.returns-clause-height
-returns-clause-height c = height (goal.at.returns-clause-height c).After-tallest-below

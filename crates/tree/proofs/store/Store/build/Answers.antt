@@ -8,18 +8,10 @@ use Rattle.tree.proofs.Adding.{with_entries, added}
 use Rattle.tree.proofs.store.Store.build.Goals as goal
 use Rattle.tree.proofs.store.Store.build.Goals.{After-put}
 
-pub overflow_add-below : goal.overflow_add-below
-overflow_add-below c = let h = c.in_ok-kind.ensures.low in omega arith
-
-pub put-requires : goal.put-requires
-put-requires c =
-    let self = c.args.self.now in
-    let ok = c.in_ok-kind.ensures.buildable in
-    record {
-      room = omega (arith, ok.5, self.reserved);
-      numbered = omega (arith, ok.5, self.limited);
-      parts = λ k d lt. let w = free_below (vec_items self.entries) c.args.parts.now ok.1.0 k d lt in omega arith;
-    }
+pub put-requires-clause-parts : goal.put-requires-clause-parts
+put-requires-clause-parts c k d lt =
+    let w = free_below (vec_items c.args.self.now.entries) c.args.parts.now c.in_ok-kind.ensures.buildable.1.0 k d lt in
+    omega arith
 
 -- what the tree with the new node keeps, and what was built
 built_once : (c : After-put) → Keeps (with_entries (state_of c.args.self.now) (vec_items c.put.new.entries)) × Built c.args.written (state_of c.args.self.now) c.args.shape c.args.parts.now (used (state_of c.args.self.now)) (with_entries (state_of c.args.self.now) (vec_items c.put.new.entries))

@@ -5,9 +5,6 @@ use Rattle.tree.proofs.store.Store.read.Goals as goal
 pub entry-requires : goal.entry-requires
 entry-requires c = present_used c.args.self.now c.args.n c.if-not-is_present.ensures
 
-pub returns-in-String-clause-present : goal.returns-in-String-clause-present
-returns-in-String-clause-present c = c.if-not-is_present.ensures
-
 pub returns-in-String-clause-units : goal.returns-in-String-clause-units
 returns-in-String-clause-units c =
     let is = a_string c.args.self.now c.args.n c.if-not-is_present.ensures c.entry.result c.entry.ensures c.in-String.span c.in-String.is in
