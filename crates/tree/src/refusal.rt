@@ -3,20 +3,28 @@ ghost use Rattle.tree.specs.declared.refusal.OpenError.TheVariants.{NoMemory};
 ghost use Rattle.tree.specs.Calls.{number_of, open_number_of};
 
 use std::alloc::AllocError;
-use std::error::Error;
-use std::fmt;
+use thiserror::Error;
 
 // Why a call is refused, and the refusal's number. `docs/REFUSALS.md` has the conditions.
-#[derive(Clone, Copy, Debug, PartialEq, Eq)]
+#[derive(Clone, Copy, Debug, PartialEq, Eq, Error)]
 pub enum Refusal {
+    #[error("the root is named already, or not yet")]
     WrongTime = 2,
+    #[error("no text for a name, or no value for a constant")]
     BadName = 3,
+    #[error("the name is listed already, or the list is full")]
     NotListed = 4,
+    #[error("no such node or name, or the node is a part already")]
     NoSuchNode = 5,
+    #[error("no such node can be")]
     BadNode = 6,
+    #[error("an optional mark outside a chain, or a chain without one")]
     LooseMark = 7,
+    #[error("too many levels")]
     TooDeep = 8,
+    #[error("every place for a node is taken")]
     NoRoom = 10,
+    #[error("the output is shorter than the text")]
     ShortOutput = 11,
 }
 
@@ -28,28 +36,12 @@ impl Refusal {
     }
 }
 
-impl fmt::Display for Refusal {
-    fn fmt<W: fmt::Write>(&self, f: &mut fmt::Formatter<W>) -> fmt::Result {
-        f.write_str(match self {
-            Refusal::WrongTime => "the root is named already, or not yet",
-            Refusal::BadName => "no text for a name, or no value for a constant",
-            Refusal::NotListed => "the name is listed already, or the list is full",
-            Refusal::NoSuchNode => "no such node or name, or the node is in use",
-            Refusal::BadNode => "no such node can be",
-            Refusal::LooseMark => "an optional mark outside a chain, or a chain without one",
-            Refusal::TooDeep => "too many levels",
-            Refusal::NoRoom => "every place for a node is taken",
-            Refusal::ShortOutput => "the output is shorter than the text",
-        })
-    }
-}
-
-impl Error for Refusal {}
-
 // Why no tree is opened.
-#[derive(Clone, Copy, Debug, PartialEq, Eq)]
+#[derive(Clone, Copy, Debug, PartialEq, Eq, Error)]
 pub enum OpenError {
+    #[error("too few or too many nodes, or too long a text")]
     OutsideLimits,
+    #[error("out of memory")]
     NoMemory,
 }
 
@@ -72,14 +64,3 @@ impl From<AllocError> for OpenError {
         Self::NoMemory
     }
 }
-
-impl fmt::Display for OpenError {
-    fn fmt<W: fmt::Write>(&self, f: &mut fmt::Formatter<W>) -> fmt::Result {
-        f.write_str(match self {
-            OpenError::OutsideLimits => "too few or too many nodes, or too long a text",
-            OpenError::NoMemory => "out of memory",
-        })
-    }
-}
-
-impl Error for OpenError {}
