@@ -50,3 +50,5 @@ module _ {W : Type 0} (v : View W) (n : ℕ) (here : n < length v.entries.now) w
 
     pub node_plain : false ≡ in_parens p s → printed w (meaning_in v (at v.entries.now n).kind) ≡ printed_at w p (expr_in v n)
     node_plain f = sym (ap (printed_at w p) means ∙ printed_plain w p _ (stands ∙ sym f))
+
+pub ruleset parts = (parts_used, parts_low)

@@ -21,6 +21,7 @@ use writer::NumberWriter;
 impl<W: NumberWriter> View<'_, W> {
     // Puts the text of the node n as it stands at that place, in parentheses or not.
     #[cycle(printing)]
+    #[tactic(auto, using(crate::proofs::Reading::parts))]
     pub fn node(&self, sink: &mut Sink, n: u16, place: Place)
         requires { n < length self.now.entries.now }
         ensures { Puts sink.old (printed_at W.NumberWriter.text place (expr_in self.now n)) sink.new }

@@ -1,25 +1,12 @@
-use Rattle.std.proofs.Common.{rules}
 use Rattle.units.proofs.Sinks.{◌⨾◌, puts_none, puts_is, puts_units}
 use Rattle.syntax.specs.Operators.{binary_of}
 use Rattle.forms.proofs.Bytes.{printed-template, printed-member, printed-index, printed-call, printed-sequence, printed_arguments_lem, printed_further_lem, printed_parts_lem}
-use Rattle.printer.proofs.Reading.{parts_used, parts_low, node_parens, node_plain}
+use Rattle.printer.proofs.Reading.{node_parens, node_plain}
 use Rattle.printer.proofs.Operators.{binary_shown}
 use Rattle.printer.proofs.Rows.{turn}
 use Rattle.printer.proofs.view.View.+printing.Goals as goal
 
 -- ---- a node at its place
-
-pub node-bare-requires : goal.node-bare-requires
-node-bare-requires g t c =
-    let used = parts_used c.args.self.now c.args.n c.requires in
-    let low = parts_low c.args.self.now c.args.n c.requires in
-    search rules
-
-pub node-bare-requires-else-parenthesises : goal.node-bare-requires-else-parenthesises
-node-bare-requires-else-parenthesises g t c =
-    let used = parts_used c.args.self.now c.args.n c.requires in
-    let low = parts_low c.args.self.now c.args.n c.requires in
-    search rules
 
 pub node-returns-then-parenthesises : goal.node-returns-then-parenthesises
 node-returns-then-parenthesises g t c =
@@ -78,5 +65,4 @@ template-loop-part-preserved g t c =
 
 pub template-returns : goal.template-returns
 template-returns g t c =
-    let parts = c.loop-part.invariant.put c.loop-part.sink (rw c.in-None.ensures.steps.0 (puts_none c.loop-part.sink)) in
-    rw printed-template (c.byte.ensures ⨾ puts_units c.units.ensures c.part.ensures ⨾ parts ⨾ c.byte-2.ensures)
+    rw printed-template (c.byte.ensures ⨾ puts_units c.units.ensures c.part.ensures ⨾ c.loop-part.invariant.put c.loop-part.sink (rw c.in-None.ensures.steps.0 (puts_none c.loop-part.sink)) ⨾ c.byte-2.ensures)
