@@ -2,8 +2,7 @@
 use Rattle.std.proofs.Common.{◌≡◌, ℕ, List, [], ◌∷◌, ◌++◌, sym, ap, ◌∙◌, append-nil}
 use Rattle.std.specs.Iterator.{Yields}
 use Rattle.units.specs.declared.code_point.CodePoints.{CodePoints}
-use Rattle.units.specs.CodePoints.{code_points}
-use Rattle.units.specs.CodePointsLeft.{code_points_left, GivesCodePoint}
+use Rattle.units.specs.CodePoints.{code_points, code_points_left, GivesCodePoint}
 
 -- what was given, and what is left
 given : (s : CodePoints) (xs : List ℕ) (t : CodePoints) → Yields GivesCodePoint s xs t → code_points_left s ≡ xs ++ code_points_left t

@@ -1,5 +1,7 @@
 -- Code units and code points, ECMA-262.
-use Rattle.std.specs.Prelude.{◌≡◌, ℕ, ◌+◌, ◌-◌, ◌*◌, ◌<◌, ◌≤◌, Bool, cond, ◌&&◌, List, [], ◌∷◌, length, drop, nat_le}
+use Rattle.std.specs.Prelude.{◌≡◌, ℕ, ◌+◌, ◌-◌, ◌*◌, ◌<◌, ◌≤◌, Bool, cond, ◌&&◌, List, [], ◌∷◌, length, drop, Option, IfSome, nat_le}
+use Rattle.std.specs.Iterator.{YieldsFirst}
+use Rattle.units.specs.declared.code_point.CodePoints.{CodePoints}
 
 -- 6.1.4: the leading and the trailing surrogates
 abbrev pub is_lead : ℕ → Bool
@@ -24,3 +26,13 @@ pub record PointAt (us : List ℕ) (at value units : ℕ) : Type 0 where
   pub some : 1 ≤ units
   pub inside : at + units ≤ length us
   pub bound : value < 0x110000
+
+-- ---- an iterator over the code points of a text
+
+abbrev pub code_points_left : CodePoints → List ℕ
+code_points_left it = code_points it.rest.now
+
+-- a call of `next` gives the first of those that are left, which is a code point of Unicode
+abbrev pub GivesCodePoint : CodePoints → Option ℕ → CodePoints → Type 0
+GivesCodePoint before point after =
+    YieldsFirst code_points_left before point after × IfSome point (λ c. c < 0x110000)

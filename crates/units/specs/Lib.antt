@@ -1,4 +1,3 @@
 pub mod CodePoints
-pub mod CodePointsLeft
 pub mod Sinks
 pub mod Spans

@@ -1,7 +1,6 @@
 ghost use Rattle.std.specs.Prelude.{◌≡◌, ◌≤◌, length, MatchOption};
 ghost use Rattle.std.specs.Iterator.{item_count};
-ghost use Rattle.units.specs.CodePoints.{is_lead, is_trail, code_points, PointAt};
-ghost use Rattle.units.specs.CodePointsLeft.{code_points_left, GivesCodePoint};
+ghost use Rattle.units.specs.CodePoints.{is_lead, is_trail, code_points, PointAt, code_points_left, GivesCodePoint};
 
 // A code point, and how many units of the text spell it.
 #[derive(Clone, Copy, Debug, PartialEq, Eq)]
