@@ -1,8 +1,6 @@
 ghost use Rattle.forms.specs.Examples.{Examples};
 
-// States the worked examples of printing; the answer says nothing.
-pub fn worked_examples() -> u8
+// The worked examples of printing, each proved.
+pub fn worked_examples()
     ensures { Examples }
-{
-    0
-}
+{}

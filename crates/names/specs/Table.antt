@@ -1,8 +1,7 @@
 -- What a table of names lists: the texts and the classes of its records, of which there are at most 64.
 use Rattle.std.specs.Prelude.{◌≡◌, ℕ, ◌+◌, ◌<◌, ◌≤◌, Bool, true, false, ◌&&◌, ◌⊎◌, List, [], ◌∷◌, ◌++◌, map, length, Some, None, Option, ◌≢◌, nat_le, slice_index_or}
 use Rattle.std.specs.Float.{float_is_finite}
-use Rattle.units.specs.declared.span.Text.{Text}
-use Rattle.units.specs.declared.span.Text.TheVariants as T
+use Rattle.units.specs.Spans.{lies_in_source}
 use Rattle.names.specs.declared.table.Value.{Value}
 use Rattle.names.specs.declared.table.Value.TheVariants as V
 use Rattle.names.specs.declared.table.Class.{Class}
@@ -42,13 +41,9 @@ Added before text (Some i) after =
 Added before text None after = ((length (texts before) ≡ 64) ⊎ (64 < length text)) × (after ≡ before)
 
 -- A number is finite, and a string a part of the source text, whose length is given, with at most 1,024 units.
-abbrev pub in_source : Text → Bool
-in_source T.Source = true
-in_source T.Folded = false
-
 abbrev pub constant_value : Value → ℕ → Bool
 constant_value (V.Number x) source = float_is_finite x
-constant_value (V.String span) source = in_source span.text && nat_le (span.start + span.len) source && nat_le span.len 1024
+constant_value (V.String span) source = lies_in_source span source && nat_le span.len 1024
 constant_value (V.Boolean b) source = true
 constant_value V.Null source = true
 constant_value V.Undefined source = true

@@ -3,7 +3,7 @@ ghost use Rattle.std.specs.List.{slice_get};
 ghost use Rattle.names.specs.Table.{texts, classes, FirstAt, Added, constant_value};
 
 use arrayvec::ArrayVec;
-use units::span::{Span, Text};
+use units::span::Span;
 use words::text::MAX_UNITS;
 
 // The value of a constant. A string is a part of the source text.
@@ -117,11 +117,7 @@ pub fn is_constant_value(value: Value, source: usize) -> bool
 {
     match value {
         Value::Number(x) => x.is_finite(),
-        Value::String(span) => {
-            span.text == Text::Source
-                && span.start as usize + span.len as usize <= source
-                && span.len <= MAX_STRING_UNITS
-        }
+        Value::String(span) => span.lies_in_source(source) && span.len <= MAX_STRING_UNITS,
         Value::Boolean(_) | Value::Null | Value::Undefined => true,
     }
 }

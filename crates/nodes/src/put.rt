@@ -6,7 +6,7 @@ ghost use Rattle.nodes.specs.Put.{row, kind_of, AllBelow, linked, with_node};
 use crate::kind::{Entry, Kind, Row};
 use crate::shape::{Part, Shape};
 use syntax::operators::{BinaryOperator, UnaryOperator};
-use units::span::{Span, Text};
+use units::span::Span;
 
 // Whether a tree may hold the operator.
 fn is_unary(operator: UnaryOperator) -> bool
@@ -107,11 +107,7 @@ pub fn put(entries: &mut Vec<Entry>, kind: Kind, height: u16, parts: &[Part]) ->
         height,
         parent: None,
         next: 0,
-        after: Span {
-            text: Text::Source,
-            start: 0,
-            len: 0,
-        },
+        after: Span::EMPTY,
     };
     entries.push(entry).unwrap();
     n

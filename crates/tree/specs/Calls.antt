@@ -1,10 +1,11 @@
 -- The calls on a tree: when each is refused, and what it leaves.
 use Rattle.std.specs.Prelude.{◌≡◌, ℕ, suc, ◌<◌, ◌≤◌, Bool, true, false, cond, ◌&&◌, List, [], ◌∷◌, ◌++◌, length, drop, is_some, Some, None, Option, ◌≢◌, All, nat_lt, slice_index_or, Float}
 use Rattle.units.specs.declared.span.Span.{Span}
+use Rattle.units.specs.Spans.{is_source}
 use Rattle.template.specs.Raw.{Raw}
 use Rattle.names.specs.declared.table.Class.{Class}
 use Rattle.names.specs.declared.table.Class.TheVariants as C
-use Rattle.names.specs.Table.{constant_value, in_source}
+use Rattle.names.specs.Table.{constant_value}
 use Rattle.words.specs.Words.{identifier, name}
 use Rattle.syntax.specs.Expr.{Expr, marked}
 use Rattle.nodes.specs.declared.shape.Part.{Part}
@@ -103,7 +104,7 @@ Found a sh ps = (free a.entries ps ≡ true) × (name_listed a sh ≡ true)
 
 -- a part of the source text
 abbrev pub InSource : State → Span → Type 0
-InSource a s = (in_source s.text ≡ true) × (span_fits a.texts s ≡ true)
+InSource a s = (is_source s.text ≡ true) × (span_fits a.texts s ≡ true)
 
 -- a part of the source text that is a raw part of a template
 abbrev pub RawPart : State → Span → Type 0
