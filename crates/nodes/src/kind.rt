@@ -1,7 +1,8 @@
 use syntax::operators::{BinaryOperator, UnaryOperator};
 use units::span::Span;
 
-// Parts of a node in a row: `count` of them, from `first` on, each naming the next.
+// Parts of a node in a row: `count` of them, from `first` on, each naming the next. Nodes name each other by number, since
+// all of a tree's memory is taken when it is opened.
 #[derive(Clone, Copy)]
 pub struct Row {
     pub first: u16,
@@ -46,7 +47,7 @@ pub enum Kind {
 }
 
 // A node's place in a tree. A node is higher than each of its parts. `next` and `after` are about a part in a
-// row: the part that follows it, and in a template the raw text that follows it.
+// row: the part that follows it, which is not read at the row's end, and in a template the raw text that follows it.
 #[derive(Clone, Copy)]
 pub struct Entry {
     pub kind: Kind,

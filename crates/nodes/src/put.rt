@@ -21,6 +21,7 @@ fn is_binary(operator: BinaryOperator) -> bool
     !matches!(operator, BinaryOperator::In | BinaryOperator::Instanceof)
 }
 
+// The parts as a row; that of no parts begins anywhere.
 fn row(parts: &[Part]) -> Row
     requires { length parts.now < 65536 }
     ensures { result ≡ row parts.now }
