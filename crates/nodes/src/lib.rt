@@ -1,6 +1,7 @@
 #![tactic(auto)]
 
 pub mod check;
+pub mod count;
 pub mod kind;
 pub mod put;
 pub mod shape;

@@ -1,79 +1,69 @@
-ghost use Rattle.std.specs.Prelude.{◌≡◌, ◌+◌, ◌<◌, ◌≤◌, length, is_some, IfSome, vec_len, vec_capacity};
-ghost use Rattle.syntax.specs.Operators.{unary_of, binary_of};
-ghost use Rattle.nodes.specs.Made.{count_fits};
-ghost use Rattle.nodes.specs.Put.{row, kind_of, AllBelow, linked, with_node};
+ghost use Rattle.std.specs.Prelude.{◌≡◌, ◌+◌, ◌<◌, ◌≤◌, length, drop, vec_len, vec_capacity};
+ghost use Rattle.nodes.specs.Put.{first_of, row, kind_of, AllBelow, linked, with_node};
 
 use crate::kind::{Entry, Kind, Row};
 use crate::shape::{Part, Shape};
-use syntax::operators::{BinaryOperator, UnaryOperator};
 use units::span::Span;
 
-// Whether a tree may hold the operator.
-fn is_unary(operator: UnaryOperator) -> bool
-    ensures { result ≡ is_some (unary_of operator) }
+fn node_at(parts: &[Part], i: usize) -> u16
+    ensures { result ≡ first_of (drop i parts.now) }
 {
-    !matches!(operator, UnaryOperator::Delete)
+    parts.get(i).map_or(0, |part| part.node)
 }
 
-fn is_binary(operator: BinaryOperator) -> bool
-    ensures { result ≡ is_some (binary_of operator) }
-{
-    !matches!(operator, BinaryOperator::In | BinaryOperator::Instanceof)
-}
-
-// The parts as a row; that of no parts begins anywhere.
-fn row(parts: &[Part]) -> Row
+// The parts from i on, as a row.
+fn row_at(parts: &[Part], i: usize) -> Row
     requires { length parts.now < 65536 }
-    ensures { result ≡ row parts.now }
+    ensures { result ≡ row (drop i parts.now) }
 {
     Row {
-        first: parts.first().map_or(0, |part| part.node),
-        count: parts.len() as u16,
+        first: node_at(parts, i),
+        count: parts.len().saturating_sub(i) as u16,
     }
 }
 
-// The kind of a new node of that shape over those parts; None where it may not have so many, or its operator is none
-// of a tree's.
-pub fn kind_of(shape: Shape, parts: &[Part]) -> Option<Kind>
-    ensures fits { is_some result ≡ count_fits shape (length parts.now) }
-    ensures kind { IfSome result (λ kind. kind ≡ kind_of shape parts.now) }
+// The kind of a new node of that shape over those parts. It answers for any parts, as it always did, so a part
+// that is missing counts as the node 0.
+pub fn kind_of(shape: Shape, parts: &[Part]) -> Kind
+    requires { length parts.now < 65536 }
+    ensures { result ≡ kind_of shape parts.now }
 {
-    Some(match (shape, parts) {
-        (Shape::Number(x), []) => Kind::Number(x),
-        (Shape::String(span), []) => Kind::String(span),
-        (Shape::Boolean(b), []) => Kind::Boolean(b),
-        (Shape::Null, []) => Kind::Null,
-        (Shape::Name(i), []) => Kind::Name(i),
-        (Shape::EmptyArray, []) => Kind::EmptyArray,
-        (Shape::Unary(o), [operand]) if is_unary(o) => Kind::Unary(o, operand.node),
-        (Shape::Binary(o), [left, right]) if is_binary(o) => Kind::Binary(o, left.node, right.node),
-        (Shape::Template(head), _) if parts.len() <= 64 => Kind::Template {
+    let first = node_at(parts, 0);
+    let second = node_at(parts, 1);
+    match shape {
+        Shape::Number(x) => Kind::Number(x),
+        Shape::String(s) => Kind::String(s),
+        Shape::Boolean(b) => Kind::Boolean(b),
+        Shape::Null => Kind::Null,
+        Shape::Name(i) => Kind::Name(i),
+        Shape::EmptyArray => Kind::EmptyArray,
+        Shape::Unary(o) => Kind::Unary(o, first),
+        Shape::Binary(o) => Kind::Binary(o, first, second),
+        Shape::Template(head) => Kind::Template {
             head,
-            parts: row(parts),
+            parts: row_at(parts, 0),
         },
-        (Shape::Member { name, optional }, [object]) => Kind::Member {
-            object: object.node,
+        Shape::Member { name, optional } => Kind::Member {
+            object: first,
             name,
             optional,
         },
-        (Shape::Index { optional }, [object, key]) => Kind::Index {
-            object: object.node,
-            key: key.node,
+        Shape::Index { optional } => Kind::Index {
+            object: first,
+            key: second,
             optional,
         },
-        (Shape::Call { optional }, [callee, arguments @ ..]) if arguments.len() <= 8 => Kind::Call {
-            callee: callee.node,
-            arguments: row(arguments),
+        Shape::Call { optional } => Kind::Call {
+            callee: first,
+            arguments: row_at(parts, 1),
             optional,
         },
-        (Shape::Chain, [content]) => Kind::Chain(content.node),
-        (Shape::Sequence, [first, rest @ ..]) if 1 <= rest.len() && rest.len() <= 7 =>
-            Kind::Sequence {
-                first: first.node,
-                rest: row(rest),
-            },
-        _ => return None,
-    })
+        Shape::Chain => Kind::Chain(first),
+        Shape::Sequence => Kind::Sequence {
+            first,
+            rest: row_at(parts, 1),
+        },
+    }
 }
 
 // Makes the parts a row, each with the parent n.

@@ -6,6 +6,7 @@ ghost use Rattle.tree.specs.Of.{state_of};
 use crate::refusal::Refusal;
 use crate::store::Store;
 use nodes::check::{are_free, tallest};
+use nodes::count::count_fits;
 use nodes::kind::Kind;
 use nodes::put::{kind_of, put};
 use nodes::shape::{Part, Shape};
@@ -67,8 +68,13 @@ impl Store {
         ensures kind { IfSome result (λ kind. kind ≡ kind_of shape parts.now) }
         ensures bad { IfNone result (Not (Good written (state_of self.now) shape parts.now)) }
     {
-        let kind = kind_of(shape, parts)?;
-        (self.shape_fits(shape, written) && self.are_raw(parts)).then_some(kind)
+        if count_fits(shape, parts.len())
+            && self.shape_fits(shape, written)
+            && self.are_raw(parts)
+        {
+            return Some(kind_of(shape, parts));
+        }
+        None
     }
 
     // The kind of a new node and the height of its parts, where it may be built over them.
