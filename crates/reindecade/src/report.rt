@@ -74,7 +74,7 @@ impl Report<'_> {
                 Ok(index) => println!(self.rt; "name: 0 index {index}"),
                 Err(refusal) => self.refused("name", refusal),
             },
-            Call::Build { shape, parts } => match tree.build(shape, &parts) {
+            Call::Build(build) => match tree.build(build.shape, &build.parts) {
                 Ok(node) => {
                     self.tally.nodes = self.tally.nodes.saturating_add(1);
                     println!(self.rt; "build: 0 node {node}")

@@ -1,67 +1,58 @@
 // The line of a node to build: its shape, and its operands by number.
 ghost use Rattle.std.specs.Prelude.{◌≡◌, IfSome, IfOk};
-ghost use Rattle.script.specs.Arity.{Takes, Built, Filled};
+ghost use Rattle.script.specs.Arity.{Takes};
 ghost use Rattle.script.specs.Places.{IsShapeInSource};
 
-use crate::calls::Call;
+use crate::calls::Build;
 use crate::expected::Expected;
 use crate::fault::Fault;
 use crate::fields::Fields;
 use nodes::shape::Shape;
 
 // A shape that takes so many operands, and the operands.
-fn with_operands(fields: &mut Fields<'_>, shape: Shape, count: usize) -> Result<Call, Fault>
-    ensures { IfOk result (λ call. Built call shape count) }
+fn with_operands(fields: &mut Fields<'_>, shape: Shape, count: usize) -> Result<Build, Fault>
+    requires takes { Takes shape count }
+    requires places { IsShapeInSource shape }
 {
     let parts = fields.operands(count)?;
-    Ok(Call::Build { shape, parts })
+    Ok(Build { shape, parts })
 }
 
-fn member(fields: &mut Fields<'_>) -> Result<Call, Fault>
-    ensures { IfOk result Filled }
-{
+fn member(fields: &mut Fields<'_>) -> Result<Build, Fault> {
     let parts = fields.operands(1)?;
     let name = fields.place()?;
     let optional = fields.optional();
     let shape = Shape::Member { name, optional };
-    Ok(Call::Build { shape, parts })
+    Ok(Build { shape, parts })
 }
 
-fn index(fields: &mut Fields<'_>) -> Result<Call, Fault>
-    ensures { IfOk result Filled }
-{
+fn index(fields: &mut Fields<'_>) -> Result<Build, Fault> {
     let parts = fields.operands(2)?;
     let optional = fields.optional();
     let shape = Shape::Index { optional };
-    Ok(Call::Build { shape, parts })
+    Ok(Build { shape, parts })
 }
 
 // The callee, perhaps the mark `optional`, and the arguments.
-fn invocation(fields: &mut Fields<'_>) -> Result<Call, Fault>
-    ensures { IfOk result Filled }
-{
+fn invocation(fields: &mut Fields<'_>) -> Result<Build, Fault> {
     let callee = fields.operands(1)?;
     let optional = fields.optional();
     let parts = fields.more_operands(callee)?;
     let shape = Shape::Call { optional };
-    Ok(Call::Build { shape, parts })
+    Ok(Build { shape, parts })
 }
 
-fn sequence(fields: &mut Fields<'_>) -> Result<Call, Fault>
-    ensures { IfOk result Filled }
-{
+fn sequence(fields: &mut Fields<'_>) -> Result<Build, Fault> {
     let first = fields.operands(2)?;
     let parts = fields.more_operands(first)?;
     let shape = Shape::Sequence;
-    Ok(Call::Build { shape, parts })
+    Ok(Build { shape, parts })
 }
 
-fn template(fields: &mut Fields<'_>) -> Result<Call, Fault>
-    ensures { IfOk result Filled }
-{
+fn template(fields: &mut Fields<'_>) -> Result<Build, Fault> {
     let shape = Shape::Template(fields.place()?);
     let parts = fields.substitutions()?;
-    Ok(Call::Build { shape, parts })
+    Ok(Build { shape, parts })
 }
 
 // A shape that has no operand.
@@ -80,10 +71,8 @@ fn leaf(fields: &mut Fields<'_>, name: &str) -> Result<Option<Shape>, Expected>
     Ok(Some(shape))
 }
 
-// The call that builds a node, from after the word `build`.
-pub(crate) fn build_call(fields: &mut Fields<'_>) -> Result<Call, Fault>
-    ensures { IfOk result Filled }
-{
+// The node to build, from after the word `build`.
+pub(crate) fn build(fields: &mut Fields<'_>) -> Result<Build, Fault> {
     let name = fields.field(Expected::Shape)?;
     if let Some(shape) = leaf(fields, name)? {
         return with_operands(fields, shape, 0);

@@ -1,4 +1,8 @@
 // What a line of a script asks for.
+ghost use Rattle.std.specs.Prelude.{vec_len};
+ghost use Rattle.script.specs.Arity.{Takes};
+ghost use Rattle.script.specs.Places.{IsShapeInSource, ArePartsInSource};
+
 use names::table::Class;
 use nodes::shape::{Part, Shape};
 
@@ -8,7 +12,16 @@ pub enum WriterName {
     Short,
 }
 
-// Each span is a part of the source text.
+// A node to build: as many operands as its shape takes, and each span a part of the source text.
+#[derive(Drop)]
+pub struct Build {
+    pub shape: Shape,
+    pub parts: Vec<Part>,
+    ghost filled: { ∥ Takes shape (vec_len parts) ∥₁ },
+    ghost shape_placed: { ∥ IsShapeInSource shape ∥₁ },
+    ghost parts_placed: { ArePartsInSource parts.items },
+}
+
 #[derive(Drop)]
 pub enum Call {
     Open {
@@ -21,10 +34,7 @@ pub enum Call {
         text: Vec<u16>,
         class: Class,
     },
-    Build {
-        shape: Shape,
-        parts: Vec<Part>,
-    },
+    Build(Build),
     Root(u16),
     Read(u16),
     Print(usize),

@@ -4,7 +4,7 @@ ghost use Rattle.script.specs.Calls.{Says};
 ghost use Rattle.script.specs.Lines.{Reads};
 ghost use Rattle.script.specs.Places.{IsValueInSource, IsClassInSource};
 
-use crate::builds::build_call;
+use crate::builds::build;
 use crate::calls::{Call, WriterName};
 use crate::expected::Expected;
 use crate::fault::Fault;
@@ -77,7 +77,7 @@ fn call_from(verb: &str, fields: &mut Fields<'_>) -> Result<Call, Fault>
     match verb {
         "open" => open_call(fields),
         "name" => name_call(fields),
-        "build" => build_call(fields),
+        "build" => Ok(Call::Build(build(fields)?)),
         "root" => Ok(Call::Root(fields.node()?)),
         "read" => Ok(Call::Read(fields.node()?)),
         "print" => Ok(Call::Print(fields.integer()?)),
