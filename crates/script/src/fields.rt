@@ -37,8 +37,10 @@ fn source_part(start: u32, len: u32) -> Span
 fn operand(node: u16) -> Part
     ensures { IsInSource result.after }
 {
-    let after = source_part(0, 0);
-    Part { node, after }
+    Part {
+        node,
+        after: Span::EMPTY,
+    }
 }
 
 // What is left of a line, and where texts and lists that are read of it are kept.

@@ -90,9 +90,9 @@ impl fmt::Display for Shown<&Call> {
                 source,
             } => write!(f, "open {entries} {folded} {} {source:?}", Shown(*writer)),
             Call::Name { text, class } => write!(f, "name {text:?} {}", Shown(*class)),
-            Call::Build { shape, parts } => {
-                let parts = parts.as_slice();
-                write!(f, "build {}{}", Shown(*shape), Shown(parts))
+            Call::Build(build) => {
+                let parts = build.parts.as_slice();
+                write!(f, "build {}{}", Shown(build.shape), Shown(parts))
             }
             Call::Root(node) => write!(f, "root {node}"),
             Call::Read(node) => write!(f, "read {node}"),
