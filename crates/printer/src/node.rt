@@ -56,11 +56,7 @@ impl<W: NumberWriter> View<'_, W> {
                 object,
                 name,
                 optional,
-            } => {
-                self.node(sink, object, Place::Object);
-                sink.bytes(dot(optional));
-                sink.units(self.texts.part(name));
-            }
+            } => self.member(sink, object, name, optional),
             Kind::Index {
                 object,
                 key,
@@ -108,6 +104,16 @@ impl<W: NumberWriter> View<'_, W> {
             }
             None => sink.bytes(b"null"),
         }
+    }
+
+    #[cycle(printing)]
+    fn member(&self, sink: &mut Sink, object: u16, name: Span, optional: bool)
+        requires { object < length self.now.entries.now }
+        ensures { Puts sink.old (printed W.NumberWriter.text (Expr.member optional (expr_in self.now object) (units_of (texts_of self.now) name))) sink.new }
+    {
+        self.node(sink, object, Place::Object);
+        sink.bytes(dot(optional));
+        sink.units(self.texts.part(name));
     }
 
     #[cycle(printing)]

@@ -20,10 +20,6 @@ node-returns-else-parenthesises g t c =
 
 -- ---- a node by itself
 
-pub bare-returns-in-Member : goal.bare-returns-in-Member
-bare-returns-in-Member g t c =
-    rw (c.in-Member.is, printed-member) (c.node.ensures ⨾ puts_is c.bytes-in-Member.ensures c.dot.ensures ⨾ puts_units c.units-in-Member.ensures c.part-in-Member.ensures)
-
 pub bare-returns-in-Sequence : goal.bare-returns-in-Sequence
 bare-returns-in-Sequence g t c =
     rw (c.in-Sequence.is, printed-sequence) (c.node-in-Sequence.ensures ⨾ (rw c.parts.ensures at c.further.ensures))
@@ -31,6 +27,10 @@ bare-returns-in-Sequence g t c =
 pub binary-returns-in-Some : goal.binary-returns-in-Some
 binary-returns-in-Some g t c =
     puts_is (c.node.ensures ⨾ c.bytes.ensures ⨾ c.node-in-Some.ensures) (binary_shown g.W.NumberWriter.text (binary_of c.args.operator) _ _ _ c.in-Some.ensures)
+
+pub member-returns : goal.member-returns
+member-returns g t c =
+    rw printed-member (c.node.ensures ⨾ puts_is c.bytes.ensures c.dot.ensures ⨾ puts_units c.units.ensures c.part.ensures)
 
 pub index-returns : goal.index-returns
 index-returns g t c =

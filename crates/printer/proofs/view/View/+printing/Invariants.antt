@@ -20,6 +20,9 @@ decreases-unary g l = 5 * above l.self.now.entries.now (l.operand ∷ []) + 2
 abbrev pub decreases-binary : goal.decreases-binary
 decreases-binary g l = 5 * above l.self.now.entries.now (l.left ∷ l.right ∷ []) + 2
 
+abbrev pub decreases-member : goal.decreases-member
+decreases-member g l = 5 * above l.self.now.entries.now (l.object ∷ []) + 2
+
 abbrev pub decreases-index : goal.decreases-index
 decreases-index g l = 5 * above l.self.now.entries.now (l.object ∷ l.key ∷ []) + 2
 
