@@ -5,7 +5,7 @@ ghost use Rattle.nodes.specs.Made.{count_fits};
 use crate::shape::Shape;
 use syntax::operators::{BinaryOperator, UnaryOperator};
 
-// Whether a tree may hold the operator.
+// Whether a tree may hold the operator. Two functions, as a trait with two impls would say the same two lines.
 fn is_unary(operator: UnaryOperator) -> bool
     ensures { result ≡ is_some (unary_of operator) }
 {

@@ -3,6 +3,7 @@ use units::span::Span;
 
 // What a new node is to be, without its parts. Those come beside it, in the order in which they are written:
 // operands, object or callee first, then the key or the arguments; substitutions; parts of a sequence.
+// It is no `Kind` over another type of parts: a shape would then read `Binary(o, (), ())`.
 #[derive(Clone, Copy)]
 pub enum Shape {
     Number(f64),

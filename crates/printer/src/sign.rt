@@ -30,6 +30,7 @@ pub(crate) fn binary_text(operator: BinaryOperator) -> Option<&'static [u8]>
     }
 }
 
+// The word as bytes: `Display` would write it to a `fmt::Write`, which a sink is not.
 pub(crate) fn truth(b: bool) -> &'static [u8]
     ensures { result.now ≡ truth b }
 {

@@ -140,7 +140,7 @@ impl<'a> Fields<'a> {
         false
     }
 
-    // So many operands.
+    // So many operands. The range only counts them: there is nothing to index.
     pub(crate) fn operands(&mut self, count: usize) -> Result<Vec<Part>, Fault>
         ensures count { IfOk result (λ parts. vec_len parts ≡ count) }
         ensures places { IfOk result (λ parts. ArePartsInSource parts.items) }

@@ -70,7 +70,7 @@ fn name_call(fields: &mut Fields<'_>) -> Result<Call, Fault>
     Ok(Call::Name { text, class })
 }
 
-// The call that begins with this word.
+// The call that begins with this word. A match, since each arm reads its own fields into its own call.
 fn call_from(verb: &str, fields: &mut Fields<'_>) -> Result<Call, Fault>
     ensures { IfOk result (Says verb.now fields.old.rest.now) }
 {

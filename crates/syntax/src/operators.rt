@@ -18,7 +18,8 @@ pub enum UnaryOperator {
     Delete,
 }
 
-// `In` and `Instanceof` are there so that they can be refused by name.
+// `In` and `Instanceof` are there so that they can be refused by name. The two families share no trait:
+// each has its own table of texts, and nothing is generic over operators.
 #[derive(Clone, Copy, Debug, PartialEq, Eq)]
 pub enum BinaryOperator {
     Equality,

@@ -21,7 +21,8 @@ fn spells_one(units: &[u16], words: &[&[u8]]) -> bool
     words.iter().any(|word| spells(units, word))
 }
 
-// Whether the text is a reserved word. A word is looked for among those with its first letter.
+// Whether the text is a reserved word. By a rule of the project a word is looked for among those with its
+// first letter, so a match and no table.
 pub fn is_reserved(text: &[u16]) -> bool
     ensures { result ≡ reserved text.now }
 {

@@ -6,7 +6,7 @@ use Rattle.std.specs.Float.Ieee.{of_int}
 use Rattle.std.specs.Option.{option_map}
 use Rattle.writer.specs.Literal.{literal}
 use Rattle.writer.specs.Texts.{integer}
-use Rattle.writer.specs.Writers.{Within, Exact}
+use Rattle.writer.specs.Writers.{NumberText, Within, Exact, Wrote}
 use Rattle.writer.specs.Integers.{integer_is, integer_of}
 
 of_integer : (f : ℕ → List ℕ) (x : Float) (t : List ℕ) → option_map f (integer x) ≡ Some t → (n : ℕ) × (n < 2 ^ 53) × (f n ≡ t) × (x ≡ of_int binary64 (pos n))
@@ -31,3 +31,6 @@ pub exact_by : (f : ℕ → List ℕ) → ((n : ℕ) → n < 2 ^ 53 → literal 
 exact_by f reads x t h =
     let i = of_integer f x t h in
     (i.0, omega (arith, i.1), ap literal (sym i.2) ∙ reads i.0 i.1, i.3)
+
+pub wrote_by : (f : ℕ → List ℕ) (x : Float) (n : ℕ) (w : NumberText) → Some n ≡ integer x → w.bytes ≡ f n → length w.bytes ≤ 64 → Wrote (option_map f (integer x)) (Some w)
+wrote_by f x n w e same room = subst (λ (o : Option ℕ). Wrote (option_map f o) (Some w)) e (same, room)

@@ -3,7 +3,7 @@ use Rattle.std.proofs.Common.{div-mul-le_self, mul-le-mul_left, arith, sym, ap, 
 use Rattle.std.proofs.Math.Nat.{pow-le-pow_right}
 use Rattle.std.specs.Prelude.{◌≡◌, ℕ, ◌*◌, ◌/◌, ◌^◌, ◌<◌, ◌≤◌, Bool, true, false, cond, ◌++◌, length, Some, codes, decimal, nat_lt, refl}
 use Rattle.std.proofs.lemmas.Fmt.{length-decimal-le}
-use Rattle.std.proofs.lemmas.Bool.{le-ltb, ltb-false}
+use Rattle.std.proofs.lemmas.Bool.{lt-ltb, le-ltb, ltb-false}
 use Rattle.writer.specs.Literal.{literal}
 use Rattle.writer.specs.Texts.{final_zeros, shortened, short_decimal}
 use Rattle.writer.specs.Literals.{literal-decimal, literal_exponent}
@@ -38,7 +38,10 @@ short_reads n h = go (nat_lt (final_zeros 16 n) 3) refl
         let m = (stem_le n (final_zeros 16 n) h (ltb-false _ _ p)).0 in
         literal_exponent (n / 10 ^ final_zeros 16 n) (final_zeros 16 n) (omega arith) (omega arith) ∙ ap Some (stem_back 16 n)
 
--- ---- the text of n where it has an exponent
+-- ---- the text of n, by how many final zeros it has
+
+pub few_zeros : (n z : ℕ) → z ≡ final_zeros 16 n → z < 3 → decimal n ≡ short_decimal n
+few_zeros n z e l = sym (ap (λ (b : Bool). cond b (decimal n) (decimal (n / 10 ^ final_zeros 16 n) ++ (codes "e" ++ decimal (final_zeros 16 n)))) (lt-ltb (final_zeros 16 n) 3 (omega arith)))
 
 pub many_zeros : (n m z : ℕ) → z ≡ final_zeros 16 n → n ≡ m * 10 ^ z → 3 ≤ z → decimal m ++ (codes "e" ++ decimal z) ≡ short_decimal n
 many_zeros n m z e s l =

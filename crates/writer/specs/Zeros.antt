@@ -1,5 +1,5 @@
 -- The final zeros of a number. Assumes nothing.
-use Rattle.std.proofs.Common.{mul-one, mul_assoc, mul-le-mul_right, div-one, mul-div_cancel, pow-suc, arith, sym, ap, ◌∙◌, add-one, lit<}
+use Rattle.std.proofs.Common.{le-mul_of_pos_right, mul-one, mul_assoc, mul-le-mul_right, div-one, mul-div_cancel, pow-suc, arith, sym, ap, ◌∙◌, add-one, lit<}
 use Rattle.std.proofs.Math.Nat.{pow-le-pow_right, div-div-eq-div-mul, pow-succ'}
 use Rattle.std.specs.Prelude.{◌≡◌, ℕ, zero, suc, ◌+◌, ◌-◌, ◌*◌, ◌/◌, ◌%◌, ◌^◌, ◌<◌, ◌≤◌, Bool, true, false, cond, ◌&&◌, ◌==◌, ◌≢◌, nat_lt, refl}
 use Rattle.std.proofs.lemmas.Bool.{and_from, and_parts, eqb-true, eq-eqb, lt-ltb, ltb-true, ltb-false}
@@ -50,6 +50,9 @@ stem_back (suc k) n = go (goes_on n) refl (stem_back k (n / 10))
 
 pub power_pos : (z : ℕ) → 0 < 10 ^ z
 power_pos z = pow-le-pow_right {n = 10} (lit< tt) {i = 0} {j = z} (omega arith)
+
+pub front_le : (n m z : ℕ) → n ≡ m * 10 ^ z → m ≤ n
+front_le n m z e = omega (arith, le-mul_of_pos_right m (power_pos z))
 
 pub front_is : (n m z : ℕ) → n ≡ m * 10 ^ z → n / 10 ^ z ≡ m
 front_is n m z e = ap (λ (k : ℕ). k / 10 ^ z) e ∙ mul-div_cancel m (power_pos z)

@@ -5,6 +5,7 @@ use crate::number_writer::NumberText;
 use itoa::Buffer;
 use std::num::f64_to_bits_with_nan;
 
+// In `integers` too, where integers have a sign and -0 is one: neither crate uses the other for a constant.
 const MAX_SAFE_INTEGER: u64 = 9007199254740991;
 
 // How many digits an integer up to that has at most.
