@@ -33,6 +33,7 @@ fn escape(sink: &mut Sink, c: u32)
     }
 }
 
+// Digit by digit, since a sink takes bytes and the library's `{c:04x}` writes to a `fmt::Write`.
 fn hex_escape(sink: &mut Sink, c: u32)
     requires { c < 0x10000 }
     ensures { Puts sink.old (hex_escape c) sink.new }

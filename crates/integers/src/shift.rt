@@ -11,6 +11,7 @@ fn shift_count(y: f64) -> u32
     to_uint_32(y) % 32
 }
 
+// Each shift stays a line of its own, as the operators on bits.
 pub fn left_shift(x: f64, y: f64) -> f64
     ensures value { result ≡ left_shift x y }
     ensures neutral { Neutral left_shift 0 }

@@ -94,7 +94,7 @@ impl Names {
         Some(i)
     }
 
-    // Says what the name at i is; false past the end.
+    // Says what the name at i is; false past the end, and no `Option`, as there is nothing to give.
     pub fn classify(&mut self, i: usize, class: Class) -> bool
         ensures within { result ≡ nat_lt i (length (texts self.old)) }
         ensures classes { classes self.new ≡ slice_set (classes self.old) i class }

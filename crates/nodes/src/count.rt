@@ -5,6 +5,12 @@ ghost use Rattle.nodes.specs.Made.{count_fits};
 use crate::shape::Shape;
 use syntax::operators::{BinaryOperator, UnaryOperator};
 
+const MAX_SUBSTITUTIONS: usize = 64;
+
+const MAX_ARGUMENTS: usize = 8;
+
+const MAX_IN_SEQUENCE: usize = 8;
+
 // Whether a tree may hold the operator. Two functions, as a trait with two impls would say the same two lines.
 fn is_unary(operator: UnaryOperator) -> bool
     ensures { result ≡ is_some (unary_of operator) }
@@ -23,13 +29,13 @@ pub fn count_fits(shape: Shape, count: usize) -> bool
     ensures { result ≡ count_fits shape count }
 {
     match shape {
-        Shape::Unary(o) => (count == 1) & is_unary(o),
-        Shape::Binary(o) => (count == 2) & is_binary(o),
-        Shape::Template(_) => count <= 64,
+        Shape::Unary(o) => count == 1 && is_unary(o),
+        Shape::Binary(o) => count == 2 && is_binary(o),
+        Shape::Template(_) => count <= MAX_SUBSTITUTIONS,
         Shape::Member { .. } | Shape::Chain => count == 1,
         Shape::Index { .. } => count == 2,
-        Shape::Call { .. } => (1 <= count) & (count <= 9),
-        Shape::Sequence => (2 <= count) & (count <= 8),
+        Shape::Call { .. } => 1 <= count && count <= 1 + MAX_ARGUMENTS,
+        Shape::Sequence => 2 <= count && count <= MAX_IN_SEQUENCE,
         _ => count == 0,
     }
 }

@@ -22,8 +22,8 @@ fn row_at(parts: &[Part], i: usize) -> Row
     }
 }
 
-// The kind of a new node of that shape over those parts. It answers for any parts, as it always did, so a part
-// that is missing counts as the node 0.
+// The kind of a new node of that shape over those parts. It cannot fail, whatever the parts: one that is missing
+// counts as the node 0. `count_fits` is the test.
 pub fn kind_of(shape: Shape, parts: &[Part]) -> Kind
     requires { length parts.now < 65536 }
     ensures { result ≡ kind_of shape parts.now }

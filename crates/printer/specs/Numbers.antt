@@ -1,4 +1,4 @@
--- Numbers below a bound.
+-- Numbers below a bound. By recursion, as a row is: in terms of `All`, which goes by index, the walk down a row was not found proved.
 use Rattle.std.specs.Prelude.{ℕ, ◌<◌, List, [], ◌∷◌}
 
 abbrev pub AllBelow : ℕ → List ℕ → Type 0

@@ -11,14 +11,8 @@ pub(crate) fn shape_of(kind: Kind) -> Shape
 {
     match kind {
         Kind::Number(x) => number_shape(x),
-        Kind::Unary(o, _) => match unary_text(o) {
-            Some(_) => Shape::Loose,
-            None => Shape::Closed,
-        },
-        Kind::Binary(o, _, _) => match binary_text(o) {
-            Some(_) => Shape::Loose,
-            None => Shape::Closed,
-        },
+        Kind::Unary(o, _) if unary_text(o).is_some() => Shape::Loose,
+        Kind::Binary(o, _, _) if binary_text(o).is_some() => Shape::Loose,
         Kind::Chain(_) => Shape::Loose,
         Kind::Sequence { .. } => Shape::Sequence,
         _ => Shape::Closed,

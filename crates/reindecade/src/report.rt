@@ -15,13 +15,13 @@ pub struct Report<'a> {
 }
 
 impl Report<'_> {
-    fn numbered(&mut self, verb: &str, number: u8) -> io::Result<()> {
+    fn refused_by(&mut self, verb: &str, number: u8) -> io::Result<()> {
         self.tally.refuse(number);
         println!(self.rt; "{verb}: {number}")
     }
 
     fn refused(&mut self, verb: &str, refusal: Refusal) -> io::Result<()> {
-        self.numbered(verb, refusal.number())
+        self.refused_by(verb, refusal.number())
     }
 
     pub(crate) fn opened(&mut self) -> io::Result<()> {
@@ -31,7 +31,7 @@ impl Report<'_> {
 
     pub(crate) fn not_opened(&mut self, error: OpenError) -> io::Result<()> {
         match error.number() {
-            Some(number) => self.numbered("open", number),
+            Some(number) => self.refused_by("open", number),
             None => println!(self.rt; "open: no memory"),
         }
     }

@@ -10,7 +10,7 @@ use std::io;
 use tree::tree::Tree;
 use writer::{Plain, Short};
 
-// A tree with the writer that it was opened with.
+// A tree with the writer that it was opened with. Two arms, since a writer's texts are a fact of its type.
 #[derive(Drop)]
 enum OpenTree {
     Plain(Tree<Plain>),
@@ -31,7 +31,7 @@ impl<'a> Session<'a> {
         Session {
             report: Report {
                 rt,
-                tally: Tally::new(),
+                tally: Tally::default(),
             },
             tree: None,
             lines: 0,

@@ -1,7 +1,7 @@
 // What a script came to, for the lines at its end.
 use std::fmt;
 
-#[derive(Clone, Copy)]
+#[derive(Clone, Copy, Default)]
 pub struct Tally {
     pub trees: u64,
     pub nodes: u64,
@@ -11,15 +11,6 @@ pub struct Tally {
 }
 
 impl Tally {
-    pub(crate) fn new() -> Tally {
-        Tally {
-            trees: 0,
-            nodes: 0,
-            bytes: 0,
-            refusals: [0; 12],
-        }
-    }
-
     pub(crate) fn refuse(&mut self, number: u8) {
         if let Some(count) = self.refusals.get_mut(usize::from(number)) {
             *count = count.saturating_add(1);

@@ -13,6 +13,7 @@ use nodes::shape::Shape;
 fn with_operands(fields: &mut Fields<'_>, shape: Shape, count: usize) -> Result<Build, Fault>
     requires takes { Takes shape count }
     requires places { IsShapeInSource shape }
+    ensures { IfOk result (λ build. build.shape ≡ shape) }
 {
     let parts = fields.operands(count)?;
     Ok(Build { shape, parts })
@@ -79,11 +80,11 @@ pub(crate) fn build(fields: &mut Fields<'_>) -> Result<Build, Fault> {
     }
     match name {
         "unary" => {
-            let operator = fields.operator(Expected::UnaryOperator)?;
+            let operator = fields.parsed(Expected::UnaryOperator)?;
             with_operands(fields, Shape::Unary(operator), 1)
         }
         "binary" => {
-            let operator = fields.operator(Expected::BinaryOperator)?;
+            let operator = fields.parsed(Expected::BinaryOperator)?;
             with_operands(fields, Shape::Binary(operator), 2)
         }
         "chain" => with_operands(fields, Shape::Chain, 1),

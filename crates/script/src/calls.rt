@@ -12,7 +12,8 @@ pub enum WriterName {
     Short,
 }
 
-// A node to build: as many operands as its shape takes, and each span a part of the source text.
+// A node to build: as many operands as its shape takes, and each span a part of the source text. In `∥ ∥₁` a fact
+// says no more than that it holds, which a field's fact must.
 #[derive(Drop)]
 pub struct Build {
     pub shape: Shape,

@@ -14,6 +14,7 @@ pub enum Fault {
     NoMemory,
 }
 
+// By hand, as are the conversions below: what they give is part of their contracts.
 impl fmt::Display for Fault {
     ghost output = { λ fault. Some (fault_wording fault) };
 

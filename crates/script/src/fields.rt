@@ -100,11 +100,11 @@ impl<'a> Fields<'a> {
         node(self.field(Expected::Node)?)
     }
 
-    // The operator that the next word writes.
-    pub(crate) fn operator<O: FromStr + Drop>(&mut self, expected: Expected) -> Result<O, Expected>
+    // What the next word writes.
+    pub(crate) fn parsed<T: FromStr + Drop>(&mut self, expected: Expected) -> Result<T, Expected>
     where
-        O::Err: Drop,
-        ensures { IfOk result (λ operator. IfSome (first_word self.old.rest.now) (λ word. O.from_str_gives word (Ok operator))) }
+        T::Err: Drop,
+        ensures { IfOk result (λ value. IfSome (first_word self.old.rest.now) (λ word. T.from_str_gives word (Ok value))) }
     {
         self.field(expected)?.parse().or(Err(expected))
     }
@@ -123,11 +123,7 @@ impl<'a> Fields<'a> {
     }
 
     pub(crate) fn boolean(&mut self) -> Result<bool, Expected> {
-        match self.word() {
-            Some("true") => Ok(true),
-            Some("false") => Ok(false),
-            _ => Err(Expected::Boolean),
-        }
+        self.parsed(Expected::Boolean)
     }
 
     // Takes the mark `optional`, if it is next.

@@ -12,6 +12,7 @@ use crate::fields::Fields;
 use names::table::{Class, Value};
 use std::alloc::Global;
 
+// Words that only one call has are matched where they are read.
 fn open_call(fields: &mut Fields<'_>) -> Result<Call, Fault>
     ensures { IfOk result (Says (codes "open") fields.old.rest.now) }
 {

@@ -19,7 +19,8 @@ pub enum UnaryOperator {
 }
 
 // `In` and `Instanceof` are there so that they can be refused by name. The two families share no trait:
-// each has its own table of texts, and nothing is generic over operators.
+// each has its own tables, and nothing is generic over operators. From a text is a table too, since a search
+// over the texts would be no shorter and would say less.
 #[derive(Clone, Copy, Debug, PartialEq, Eq)]
 pub enum BinaryOperator {
     Equality,

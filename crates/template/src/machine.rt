@@ -28,8 +28,7 @@ pub enum State {
     Bad,
 }
 
-// A text of at most two units. An enum, since `BAD` holds one: a vector of a fixed capacity is made by
-// a call, and no constant holds that.
+// A text of at most two units. An enum, since a step is copied and a vector of a fixed capacity is not.
 #[derive(Clone, Copy, Debug, PartialEq, Eq)]
 pub enum Cooked {
     Nothing,

@@ -8,14 +8,17 @@ use names::table::Names;
 use nodes::kind::Entry;
 use units::span::Texts;
 
-// A tree without its writer. Its memory is all taken when it is opened.
+// A tree without its writer. Its memory is all taken when it is opened. No model: its clauses and proofs name its
+// fields and each of its facts.
 #[derive(Drop)]
 pub(crate) struct Store {
     pub(crate) entries: Vec<Entry>,
+    // how many nodes there may be: a `Vec` may have more room than was asked for
     pub(crate) capacity: usize,
     pub(crate) names: Names,
     pub(crate) source: Vec<u16>,
     pub(crate) folded: Vec<u16>,
+    // how long the folded text may become
     pub(crate) room: usize,
     pub(crate) root: Option<u16>,
     ghost within: { vec_len entries ≤ capacity },

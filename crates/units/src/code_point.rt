@@ -9,7 +9,8 @@ pub struct CodePoint {
     pub units: usize,
 }
 
-// The code points of a text, from the first that is not given yet.
+// The code points of a text, from the first that is not given yet. Not the library's `decode_utf16`: that
+// gives an error where a surrogate stands alone, which is a code point here.
 #[derive(Drop)]
 pub struct CodePoints<'a> {
     rest: &'a [u16],
