@@ -18,7 +18,8 @@ use units::sink::Sink;
 use units::span::Span;
 use writer::NumberWriter;
 
-// The sink stands beside the view: in a struct of the two each clause would name three states of one field.
+// The sink stands beside the view: in a struct of the two each clause would name three states of one field. That a
+// number is of a node stands in each clause: a type of such numbers would have to hold the view.
 impl<W: NumberWriter> View<'_, W> {
     // Puts the text of the node n as it stands at that place, in parentheses or not.
     #[cycle(printing)]

@@ -47,7 +47,7 @@ pub enum BinaryOperator {
     Instanceof,
 }
 
-// A word that writes no operator.
+// A word that writes no operator. Its text by hand, since what `fmt` writes is part of its contract.
 #[derive(Clone, Copy, Debug, PartialEq, Eq)]
 pub struct NoOperator;
 

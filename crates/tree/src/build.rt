@@ -19,6 +19,8 @@ const LEVEL: u16 = 4;
 
 const MAX_LEVELS: u16 = 64;
 
+// A shape comes beside its parts: a struct of the two would be made at each call and taken apart at once. The tests
+// say `MatchBool`: with `IsTrue result ↔ ..` goals that are found alone were not found.
 impl Store {
     fn in_source(&self, span: Span) -> bool
         ensures { MatchBool result (InSource (state_of self.now) span) (Not (InSource (state_of self.now) span)) }

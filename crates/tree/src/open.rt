@@ -13,6 +13,7 @@ const MAX_ENTRIES: usize = 4096;
 
 const MAX_UNITS: usize = 65536;
 
+// The measures are parameters: a struct of them would be made for this one call.
 impl Store {
     // A tree with places for so many nodes and so much folded text, over a copy of the source text.
     pub(crate) fn open(
