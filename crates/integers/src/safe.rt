@@ -1,7 +1,7 @@
 ghost use Rattle.std.specs.Prelude.{◌≡◌};
 ghost use Rattle.integers.specs.Safe.{safe, made, SafeMade, MadeSafe};
 
-// The largest integer that is safe: 2^53 - 1.
+// The largest integer that is safe: 2^53 - 1. In `writer` too, for integers without a sign.
 const MAX_SAFE_INTEGER: u64 = 9007199254740991;
 
 // A sign and a size, since -0 is an integer apart from 0: negative, of size 0.

@@ -48,7 +48,7 @@ pub enum Kind {
 
 // A node's place in a tree. A node is higher than each of its parts. `next` and `after` are about a part in a
 // row: the part that follows it, and in a template the raw text that follows it. A row counts its parts, so `next`
-// is not read at its end and need not be an `Option`.
+// is not followed at its end and need not be an `Option`.
 #[derive(Clone, Copy)]
 pub struct Entry {
     pub kind: Kind,

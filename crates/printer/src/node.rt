@@ -77,7 +77,7 @@ impl<W: NumberWriter> View<'_, W> {
         }
     }
 
-    // No tree holds an operator without a text.
+    // Apart from `binary`, as their texts are in `sign.rt`. No tree holds an operator without a text.
     #[cycle(printing)]
     fn unary(&self, sink: &mut Sink, operator: UnaryOperator, operand: u16)
         requires { operand < length self.now.entries.now }

@@ -72,7 +72,7 @@ fn leaf(fields: &mut Fields<'_>, name: &str) -> Result<Option<Shape>, Expected>
     Ok(Some(shape))
 }
 
-// The node to build, from after the word `build`.
+// The node to build, from after the word `build`. A match, as for the calls.
 pub(crate) fn build(fields: &mut Fields<'_>) -> Result<Build, Fault> {
     let name = fields.field(Expected::Shape)?;
     if let Some(shape) = leaf(fields, name)? {

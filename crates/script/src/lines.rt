@@ -1,4 +1,5 @@
-// A line of a script: a call, nothing, or neither.
+// A line of a script: a call, nothing, or neither. Words are matched where they are read: an impl with an error type
+// for each set of words would be longer than the arms.
 ghost use Rattle.std.specs.Prelude.{◌≡◌, IfOk, codes};
 ghost use Rattle.script.specs.Calls.{Says};
 ghost use Rattle.script.specs.Lines.{Reads};
@@ -12,7 +13,6 @@ use crate::fields::Fields;
 use names::table::{Class, Value};
 use std::alloc::Global;
 
-// Words that only one call has are matched where they are read.
 fn open_call(fields: &mut Fields<'_>) -> Result<Call, Fault>
     ensures { IfOk result (Says (codes "open") fields.old.rest.now) }
 {
@@ -71,7 +71,7 @@ fn name_call(fields: &mut Fields<'_>) -> Result<Call, Fault>
     Ok(Call::Name { text, class })
 }
 
-// The call that begins with this word. A match, since each arm reads its own fields into its own call.
+// The call that begins with this word. A match: a table of functions would be no shorter than the arms.
 fn call_from(verb: &str, fields: &mut Fields<'_>) -> Result<Call, Fault>
     ensures { IfOk result (Says verb.now fields.old.rest.now) }
 {

@@ -5,7 +5,7 @@ ghost use Rattle.script.specs.Numbers.{integer_to};
 
 use crate::expected::Expected;
 
-// A decimal integer; one past the largest `usize` counts as that.
+// A decimal integer; one past the largest `usize` counts as that, which `parse` would refuse.
 #[tactic(auto, using(crate::proofs::Capped::more))]
 pub(crate) fn integer(word: &str) -> Result<usize, Expected>
     ensures { result_ok result ≡ integer_to (2 ^ 64 - 1) word.now }

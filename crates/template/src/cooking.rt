@@ -51,7 +51,8 @@ fn write_cooked(raw: &[u16], out: &mut [u16]) -> Option<usize>
 }
 
 // Writes the cooked text of a raw part to the front of `out`, and gives its length. Where `raw` is no
-// raw part, or `out` is too short, there is nothing to give and nothing is written.
+// raw part, or `out` is too short, there is nothing to give and nothing is written. The slice is the caller's,
+// as a leaf takes no memory.
 pub fn cook(raw: &[u16], out: &mut [u16]) -> Option<usize>
     ensures { CookedInto raw.now out.old out.new result }
 {

@@ -28,7 +28,8 @@ pub enum State {
     Bad,
 }
 
-// A text of at most two units. An enum, since a step is copied and a vector of a fixed capacity is not.
+// A text of at most two units. An enum, as what writes it matches the three cases; a vector of a fixed capacity
+// would be taken apart by its length.
 #[derive(Clone, Copy, Debug, PartialEq, Eq)]
 pub enum Cooked {
     Nothing,

@@ -12,6 +12,7 @@ use nodes::kind::Entry;
 use nodes::shape::{Part, Shape};
 use nodes::step::link_of;
 
+// That a number is of a node stands in each clause, as in the printer.
 impl Store {
     pub(crate) fn entry(&self, n: u16) -> Entry
         requires { n < used (state_of self.now) }

@@ -6,6 +6,7 @@ ghost use Rattle.tree.specs.Of.{state_of};
 
 use crate::store::Store;
 
+// `MatchBool` as in `build.rt`.
 impl Store {
     // Whether n is `top` or below it: whether parents lead from n to it.
     fn is_below(&self, top: u16, n: u16) -> bool

@@ -41,6 +41,7 @@ pub(crate) struct Scaled {
     pub(crate) zeros: u64,
 }
 
+// The library counts no final zeros of a decimal.
 pub(crate) fn without_zeros(n: u64) -> Scaled
     requires { n < 10 ^ 16 }
     ensures zeros { result.zeros ≡ final_zeros 16 n }
