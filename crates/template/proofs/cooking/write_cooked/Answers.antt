@@ -1,9 +1,6 @@
-use Rattle.std.proofs.Common.{[], refl, arith}
+use Rattle.std.proofs.Common.{arith}
 use Rattle.template.proofs.Writes.{fits, written_more}
 use Rattle.template.proofs.cooking.write_cooked.Goals as goal
-
-pub loop-unit-init : goal.loop-unit-init
-loop-unit-init c = record { front = []; whole = refl; count = refl; wrote = refl; on = refl }
 
 pub put-end-requires : goal.put-end-requires
 put-end-requires c =
