@@ -1,12 +1,13 @@
 -- Powers of ten up to 10 ^ 22 are floats exactly, and a float is compared with them. Assumes nothing.
-use Rattle.std.proofs.Common.{◌≡◌, ℕ, zero, suc, ◌+◌, ◌*◌, ◌^◌, ◌<◌, ◌≤◌, Bool, true, false, cond, leb, List, [], ◌∷◌, ◌++◌, ℤ, pos, sym, refl, ap, ◌∙◌, le_trans, lt_of_lt_of_le, lt_of_le_of_lt, add-zero, mul_assoc, div-lt_iff_lt-mul, pow-suc, le-div_iff_mul-le, mul-one, add-one, arith, lit<, lit≤, pow_mono, pow-add, shl_lt}
+use Rattle.std.proofs.Common.{◌≡◌, ℕ, zero, suc, ◌+◌, ◌*◌, ◌^◌, ◌<◌, ◌≤◌, Bool, true, false, cond, leb, eqb, List, length, [], ◌∷◌, ◌++◌, ℤ, pos, sym, refl, ap, ◌∙◌, le_trans, lt_of_lt_of_le, lt_of_le_of_lt, add-zero, mul_assoc, div-lt_iff_lt-mul, pow-suc, le-div_iff_mul-le, mul-one, add-one, arith, lit<, lit≤, pow_mono, pow-add, shl_lt}
 use native.Mathlib.Nat.{mul-mul-mul_comm, pow-le-pow_right}
 use lib.Ieee.{Float, fin, binary64, of_int, le}
 use lib.Ieee.Fits.{down_pos}
 use lib.Ieee.Exact.{HasValue, round_exact}
-use Rattle.std.proofs.lemmas.Bool.{le-leb, lt-leb, leb-true, leb-false}
-use Rattle.std.specs.Prelude.{count_by}
-use Rattle.std.proofs.lemmas.List.Sums.{sum_by_push}
+use Rattle.std.proofs.lemmas.Bool.{le-leb, lt-leb, leb-true, leb-false, eq-eqb, eqb-true, cond_both}
+use Rattle.std.specs.List.{prefix_len}
+use Rattle.std.proofs.lemmas.List.{length-append}
+use Rattle.std.proofs.lemmas.List.Folds.{prefix_len-append}
 use Rattle.integers.specs.Words.{whole}
 use Rattle.integers.specs.Digits.{tens, digits, Lengths}
 use Rattle.integers.proofs.Values.{le-true, le-false}
@@ -41,15 +42,6 @@ abbrev pub powers : ℕ → List Float
 powers zero = []
 powers (suc k) = powers k ++ of_int binary64 (pos (10 ^ suc k)) ∷ []
 
--- as many of them are at most a number as are at most its whole part
-pub reached : (k m : ℕ) (e : ℤ) → k ≤ 22 → count_by (λ p. le p (fin false m e)) (powers k) ≡ tens k (whole m e)
-unfolding tens
-reached zero m e h = refl
-reached (suc k) m e h =
-    sum_by_push (λ p. cond (le p (fin false m e)) 1 0) (powers k) (of_int binary64 (pos (10 ^ suc k)))
-    ∙ ap (λ (n : ℕ). n + cond (le (of_int binary64 (pos (10 ^ suc k))) (fin false m e)) 1 0) (reached k m e (omega arith))
-    ∙ ap (λ (b : Bool). tens k (whole m e) + cond b 1 0) (compares (suc k) m e h)
-
 pub none : (n : ℕ) → tens 0 n ≡ 0
 unfolding tens
 none n = refl
@@ -68,6 +60,23 @@ below_too n k h = le-leb (10 ^ k) n (le_trans (pow-le-pow_right {n = 10} (lit< t
 all : (n k : ℕ) → leb (10 ^ k) n ≡ true → tens k n ≡ k
 all n zero h = none n
 all n (suc k) h = more n k h ∙ ap suc (all n k (below_too n k h))
+
+length-powers : (k : ℕ) → length (powers k) ≡ k
+length-powers zero = refl
+length-powers (suc k) = length-append (powers k) (of_int binary64 (pos (10 ^ suc k)) ∷ []) ∙ rw (length-powers k) (add-one k)
+
+-- those before the first that is larger than a number are as many as are at most its whole part
+pub reached : (k m : ℕ) (e : ℤ) → k ≤ 22 → prefix_len (λ p. le p (fin false m e)) (powers k) ≡ tens k (whole m e)
+reached zero m e h = sym (none (whole m e))
+reached (suc k) m e h =
+    prefix_len-append (λ p. le p (fin false m e)) (powers k) (of_int binary64 (pos (10 ^ suc k)) ∷ [])
+    ∙ rw (reached k m e (omega arith), length-powers k, compares (suc k) m e h) (go (leb (10 ^ suc k) (whole m e)) refl)
+  where
+    go : (b : Bool) → leb (10 ^ suc k) (whole m e) ≡ b → cond (eqb (tens k (whole m e)) k) (k + cond b 1 0) (tens k (whole m e)) ≡ tens (suc k) (whole m e)
+    go true l = rw (all (whole m e) k (below_too (whole m e) k l), eq-eqb k k refl, all (whole m e) (suc k) l) (add-one k)
+    go false l =
+        let t = tens k (whole m e) in
+        rw (fewer (whole m e) k l) (cond_both (eqb t k) (k + 0) t (λ n. n ≡ t) (λ q. add-zero k ∙ sym (eqb-true t k q)) (λ q. refl))
 
 -- tens k n is the last exponent up to k in reach
 bracket : (n k : ℕ) → n < 10 ^ suc k → 0 < n → (10 ^ tens k n ≤ n) × (n < 10 ^ suc (tens k n))

@@ -14,7 +14,10 @@ fn whole_digits(magnitude: f64) -> u32
     ensures value { (m : ℕ) (e : ℤ) → magnitude ≡ fin false m e → result ≡ digits (whole m e) }
     ensures bound { result ≤ 23 }
 {
-    let reached = POWERS.iter().filter(|power| **power <= magnitude).count();
+    let reached = POWERS
+        .iter()
+        .take_while(|power| **power <= magnitude)
+        .count();
     reached as u32 + 1
 }
 

@@ -8,7 +8,7 @@ use Rattle.names.specs.declared.table.Name.{Name}
 use Rattle.names.specs.Table.{text_of, NotBefore, FirstAt}
 
 blank : Name
-blank = record { text = record { items = [] }; class = C.Free }
+blank = record { text = []; len = 0; class = C.Free }
 
 not_before : (ns : List Name) (text : List ℕ) (k : ℕ) → k ≤ length ns → AllWithin (λ n. text_of n ≢ text) ns 0 k → NotBefore (map text_of ns) text k
 not_before ns text k l others j h e = others j blank (omega arith) h (sym (get_or-map text_of ns j blank [] (omega arith)) ∙ e)

@@ -1,5 +1,5 @@
 -- What a table of names lists: the texts and the classes of its records, of which there are at most 64.
-use Rattle.std.specs.Prelude.{◌≡◌, ℕ, ◌<◌, ◌≤◌, Bool, true, ◌&&◌, ◌⊎◌, List, [], ◌∷◌, ◌++◌, map, length, Some, None, Option, ◌≢◌, nat_le, slice_index_or}
+use Rattle.std.specs.Prelude.{◌≡◌, ℕ, ◌<◌, ◌≤◌, Bool, true, ◌&&◌, ◌⊎◌, List, [], ◌∷◌, ◌++◌, map, length, take, Some, None, Option, ◌≢◌, nat_le, slice_index_or}
 use Rattle.std.specs.Float.{float_is_finite}
 use Rattle.units.specs.Spans.{lies_in_source}
 use Rattle.names.specs.declared.table.Value.{Value}
@@ -10,7 +10,7 @@ use Rattle.names.specs.declared.table.Name.{Name}
 use Rattle.names.specs.declared.table.Names.{Names}
 
 abbrev pub text_of : Name → List ℕ
-text_of n = n.text.items
+text_of n = take n.len n.text
 
 abbrev pub class_of : Name → Class
 class_of n = n.class

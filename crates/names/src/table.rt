@@ -1,6 +1,6 @@
 ghost use Rattle.std.specs.Prelude.{◌≡◌, ◌≤◌, false, [], length, nat_lt, slice_index_or, slice_set};
 ghost use Rattle.std.specs.List.{slice_get};
-ghost use Rattle.names.specs.Table.{texts, classes, FirstAt, Added, constant_value};
+ghost use Rattle.names.specs.Table.{text_of, texts, classes, FirstAt, Added, constant_value};
 
 use arrayvec::ArrayVec;
 use units::span::Span;
@@ -25,9 +25,10 @@ pub enum Class {
     Constant { value: Value, inlined: bool },
 }
 
-#[derive(Default, Drop)]
+#[derive(Clone, Copy, Default)]
 pub struct Name {
-    text: ArrayVec<u16, MAX_UNITS>,
+    text: [u16; MAX_UNITS],
+    len: usize,
     class: Class,
 }
 
@@ -41,6 +42,14 @@ pub const MAX_STRING_UNITS: u32 = 1024;
 #[derive(Drop)]
 pub struct Names {
     records: ArrayVec<Name, MAX_NAMES>,
+}
+
+impl Name {
+    fn text(&self) -> &[u16]
+        ensures { result.now ≡ text_of self.now }
+    {
+        &self.text[0..self.len.min(MAX_UNITS)]
+    }
 }
 
 impl Names {
@@ -65,7 +74,7 @@ impl Names {
     pub fn text(&self, i: usize) -> &[u16]
         ensures { result.now ≡ slice_index_or (texts self.now) i [] }
     {
-        self.records.get(i).map_or(&[], |name| name.text.as_slice())
+        self.records.get(i).map_or(&[], |name| name.text())
     }
 
     pub fn class(&self, i: usize) -> Option<Class>
@@ -78,9 +87,7 @@ impl Names {
     pub fn find(&self, text: &[u16]) -> Option<usize>
         ensures { FirstAt (texts self.now) text.now result }
     {
-        self.records
-            .iter()
-            .position(|name| name.text.as_slice() == text)
+        self.records.iter().position(|name| name.text() == text)
     }
 
     // Lists the text as a free name, and says where; None where there is no room for it.
@@ -88,9 +95,16 @@ impl Names {
         ensures { Added self.old text.now result self.new }
     {
         let i = self.len();
-        let text = ArrayVec::try_from(text).ok()?;
-        let class = Class::Free;
-        self.records.try_push(Name { text, class }).ok()?;
+        if i >= MAX_NAMES || text.len() > MAX_UNITS {
+            return None;
+        }
+        let mut units = [0; MAX_UNITS];
+        units[0..text.len()].copy_from_slice(text);
+        self.records.push(Name {
+            text: units,
+            len: text.len(),
+            class: Class::Free,
+        });
         Some(i)
     }
 

@@ -10,7 +10,7 @@ use Rattle.nodes.specs.declared.kind.Entry.{Entry}
 use Rattle.nodes.specs.declared.shape.Part.{Part}
 use Rattle.nodes.specs.Meaning.{Texts, blank, at, links, links_of, fixed, nums, kids_of, kids, expr, has, distinct, Sound, Held, Single}
 use Rattle.nodes.specs.Made.{nodes, loose, free}
-use Rattle.nodes.specs.Put.{first_of, tied, linked, new_entry, with_node}
+use Rattle.nodes.specs.Put.{first_of, tied, linked, new_entry, with_added}
 use Rattle.nodes.proofs.Members.{In, Once, in-has, has_in, once_distinct, in_right}
 use Rattle.nodes.proofs.Laws.{frame, under, held_under, links_same, links_of_same}
 
@@ -108,7 +108,7 @@ none_some o n p q = let z : ◌≡◌ {A = ℕ} 0 1 = cc in omega arith
 
 module _ (es : List Entry) (k : Kind) (h : ℕ) (ps : List Part) (s : Sound es (length es)) (fr : free es ps ≡ true) where
   abbrev pub fs : List Entry
-  fs = with_node es k h ps
+  fs = with_added es k h ps
 
   part_free : (x : ℕ) → In x (nodes ps) → (x < length es) × ((at es x).parent ≡ None)
   part_free = free_each es ps fr
@@ -117,11 +117,11 @@ module _ (es : List Entry) (k : Kind) (h : ℕ) (ps : List Part) (s : Sound es (
   low x i = (part_free x i).0
 
   old_at : (x : ℕ) → x < length es → at fs x ≡ at (linked ps (length es) es) x
-  unfolding with_node
+  unfolding with_added
   old_at x lt = let old : x < length (linked ps (length es) es) = omega (arith, length-linked ps (length es) es) in get_or_append_left (linked ps (length es) es) (new_entry k h ∷ []) blank x old
 
   pub new_at : at fs (length es) ≡ new_entry k h
-  unfolding with_node
+  unfolding with_added
   new_at = get_or_at (linked ps (length es) es) (new_entry k h) [] blank (length es) (length-linked ps (length es) es)
 
   kept : (x : ℕ) → x < length es → Kept (at es x) (at fs x)
@@ -144,7 +144,7 @@ module _ (es : List Entry) (k : Kind) (h : ℕ) (ps : List Part) (s : Sound es (
       (cases_Bool (has x (nodes ps)))
 
   pub length_new : length fs ≡ length es + 1
-  unfolding with_node
+  unfolding with_added
   length_new = length_push (linked ps (length es) es) (new_entry k h) ∙ ap (λ n. n + 1) (length-linked ps (length es) es)
 
   -- a node that stood below another is no new part

@@ -7,7 +7,7 @@ use Rattle.nodes.specs.declared.shape.Part.{Part}
 use Rattle.nodes.specs.declared.shape.Shape.{Shape}
 use Rattle.nodes.specs.Meaning.{Texts, at, links, links_of, kids_of, mean, expr, Sound, Held, Single}
 use Rattle.nodes.specs.Made.{given, made, count_fits, nodes, free}
-use Rattle.nodes.specs.Put.{first_of, kind_of, tallest, with_node}
+use Rattle.nodes.specs.Put.{first_of, kind_of, tallest, with_added}
 use Rattle.nodes.proofs.Members.{In}
 use Rattle.nodes.proofs.Laws.{mean-cong, unfold_expr}
 use Rattle.nodes.proofs.Building.{pairs, free_each, new_at, new_row, length_new, old_height, built_sound, built_single, built_held, built_others}
@@ -17,7 +17,7 @@ use Rattle.nodes.proofs.Levels.{made-levels, tallest-deepest, below_tallest}
 
 module _ (t : Texts) (es : List Entry) (sh : Shape) (ps : List Part) (s : Sound es (length es)) (fr : free es ps ≡ true) (cf : count_fits sh (length ps) ≡ true) where
   abbrev pub fs : List Entry
-  fs = with_node es (kind_of sh ps) (tallest es ps + 4) ps
+  fs = with_added es (kind_of sh ps) (tallest es ps + 4) ps
 
   made_expr : (e : Expr) × (made t sh (given t es ps) ≡ Some e)
   made_expr = makes t es sh ps cf

@@ -1,4 +1,4 @@
--- How a new node is added to the entries.
+-- How a new node is written into the entries.
 use Rattle.std.specs.Prelude.{ℕ, ◌<◌, max, All, List, [], ◌∷◌, ◌++◌, length, drop, Some, None, slice_set}
 use Rattle.units.specs.declared.span.Span.{Span}
 use Rattle.nodes.specs.declared.kind.Row.{Row}
@@ -49,9 +49,13 @@ linked (p ∷ ps) n es = slice_set (linked ps n es) p.node (tied (at (linked ps 
 abbrev pub new_entry : Kind → ℕ → Entry
 new_entry k h = record { kind = k; height = h; parent = None; next = 0; after = no_span }
 
+-- the entries with a new node n over the parts ps
+unfoldable pub with_node : List Entry → ℕ → Kind → ℕ → List Part → List Entry
+with_node es n k h ps = slice_set (linked ps n es) n (new_entry k h)
+
 -- the entries with a new node over the parts ps, behind the others
-unfoldable pub with_node : List Entry → Kind → ℕ → List Part → List Entry
-with_node es k h ps = linked ps (length es) es ++ (new_entry k h ∷ [])
+unfoldable pub with_added : List Entry → Kind → ℕ → List Part → List Entry
+with_added es k h ps = linked ps (length es) es ++ (new_entry k h ∷ [])
 
 -- the greatest height of the parts
 abbrev pub tallest : List Entry → List Part → ℕ

@@ -1,5 +1,5 @@
 ghost use Rattle.std.specs.Prelude.{◌≡◌, ◌+◌, ◌<◌, ◌≤◌, length, drop, vec_len, vec_capacity};
-ghost use Rattle.nodes.specs.Put.{first_of, row, kind_of, AllBelow, linked, with_node};
+ghost use Rattle.nodes.specs.Put.{first_of, row, kind_of, AllBelow, linked, new_entry, with_node, with_added};
 
 use crate::kind::{Entry, Kind, Row};
 use crate::shape::{Part, Shape};
@@ -81,25 +81,41 @@ fn link(entries: &mut [Entry], parts: &[Part], n: u16)
     }
 }
 
-// Adds a node over the parts behind the others, and tells its number.
-pub fn put(entries: &mut Vec<Entry>, kind: Kind, height: u16, parts: &[Part]) -> u16
-    requires room { vec_len entries.old < vec_capacity entries.old }
-    requires numbered { vec_len entries.old < 65536 }
-    requires parts { AllBelow (vec_len entries.old) parts.now }
-    ensures number { result ≡ vec_len entries.old }
-    ensures items { entries.new.items ≡ with_node entries.old.items kind height parts.now }
-    ensures len { vec_len entries.new ≡ vec_len entries.old + 1 }
-    ensures capacity { vec_capacity entries.old ≤ vec_capacity entries.new }
+// A node that is no part, over parts that name it as their parent.
+fn new_entry(kind: Kind, height: u16) -> Entry
+    ensures { result ≡ new_entry kind height }
 {
-    let n = entries.len() as u16;
-    link(entries, parts, n);
-    let entry = Entry {
+    Entry {
         kind,
         height,
         parent: None,
         next: 0,
         after: Span::EMPTY,
-    };
-    entries.push(entry).unwrap();
+    }
+}
+
+// Puts a new node over the parts at n, in the place of what is there.
+pub fn put(entries: &mut [Entry], n: u16, kind: Kind, height: u16, parts: &[Part])
+    requires place { n < length entries.old }
+    requires parts { AllBelow (length entries.old) parts.now }
+    ensures { entries.new ≡ with_node entries.old n kind height parts.now }
+{
+    link(entries, parts, n);
+    entries[n as usize] = new_entry(kind, height);
+}
+
+// Adds a node over the parts behind the others, and tells its number.
+pub fn add(entries: &mut Vec<Entry>, kind: Kind, height: u16, parts: &[Part]) -> u16
+    requires room { vec_len entries.old < vec_capacity entries.old }
+    requires numbered { vec_len entries.old < 65536 }
+    requires parts { AllBelow (vec_len entries.old) parts.now }
+    ensures number { result ≡ vec_len entries.old }
+    ensures items { entries.new.items ≡ with_added entries.old.items kind height parts.now }
+    ensures len { vec_len entries.new ≡ vec_len entries.old + 1 }
+    ensures capacity { vec_capacity entries.old ≤ vec_capacity entries.new }
+{
+    let n = entries.len() as u16;
+    link(entries, parts, n);
+    entries.push(new_entry(kind, height)).unwrap();
     n
 }

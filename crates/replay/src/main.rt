@@ -30,23 +30,24 @@ fn replay<F: Fn(Global, &[&str]) -> Result<(), Fault>>(
 {
     let heap = rt.alloc();
     let text = fs::read_to_string(rt, file)?;
-    let rows: Vec<(usize, &str)> = text
+    let rows = text
         .as_str()
         .lines()
         .enumerate()
-        .filter(|(_, line)| !line.starts_with('#'))
-        .collect(heap)?;
-    if rows.is_empty() {
-        return Err(anyhow!(format!(in heap; "{file}: no rows")?));
-    }
-    for (above, row) in &rows {
+        .filter(|(_, line)| !line.starts_with('#'));
+    // counted as they are checked: a list of them would take more memory than the file
+    let mut count = 0usize;
+    for (above, row) in rows {
         if let Err(fault) = check_row(heap, row, &check) {
-            let number = *above + 1;
+            let number = above + 1;
             eprintln!(rt; "{file}, line {number}: {fault}")?;
             return Err(anyhow!("not replayed to the end"));
         }
+        count = count.saturating_add(1);
     }
-    let count = rows.len();
+    if count == 0 {
+        return Err(anyhow!(format!(in heap; "{file}: no rows")?));
+    }
     println!(rt; "{subject}: {count} rows, all as recorded")?;
     Ok(())
 }

@@ -11,7 +11,7 @@ use Rattle.script.specs.declared.calls.Call.TheVariants as C
 abbrev pub Says : List ℕ → List ℕ → Call → Type 0
 Says verb s (C.Open entries folded writer source) = verb ≡ codes "open"
 Says verb s (C.Name text class) = (verb ≡ codes "name") × IsClassInSource class
-Says verb s (C.Build build) = (verb ≡ codes "build") × ∥ Takes build.shape (vec_len build.parts) ∥₁
+Says verb s (C.Build build) = (verb ≡ codes "build") × Takes build.shape (vec_len build.parts)
 Says verb s (C.Root n) = (verb ≡ codes "root") × (counted_to (2 ^ 16 - 1) (first_word s) ≡ Some n)
 Says verb s (C.Read n) = (verb ≡ codes "read") × (counted_to (2 ^ 16 - 1) (first_word s) ≡ Some n)
 Says verb s (C.Print n) = (verb ≡ codes "print") × (counted_to (2 ^ 64 - 1) (first_word s) ≡ Some n)

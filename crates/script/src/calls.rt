@@ -1,6 +1,6 @@
 // What a line of a script asks for.
 ghost use Rattle.std.specs.Prelude.{vec_len};
-ghost use Rattle.script.specs.Arity.{Takes};
+ghost use Rattle.script.specs.Arity.{Takes, Takes-prop};
 ghost use Rattle.script.specs.Places.{IsShapeInSource, ArePartsInSource};
 
 use names::table::Class;
@@ -18,7 +18,7 @@ pub enum WriterName {
 pub struct Build {
     pub shape: Shape,
     pub parts: Vec<Part>,
-    ghost filled: { ∥ Takes shape (vec_len parts) ∥₁ },
+    ghost filled: { Takes shape (vec_len parts) } by { Takes-prop shape (vec_len parts) },
     ghost shape_placed: { ∥ IsShapeInSource shape ∥₁ },
     ghost parts_placed: { ArePartsInSource parts.items },
 }

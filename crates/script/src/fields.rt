@@ -1,6 +1,6 @@
 // The fields of a line, from left to right. Spaces separate them, and a `#` where one could begin
 // makes the rest of the line a comment.
-ghost use Rattle.std.specs.Prelude.{◌≡◌, ◌-◌, ◌^◌, ◌<◌, ◌≤◌, length, vec_len, OnSome, IfSome, IfOk, Ok};
+ghost use Rattle.std.specs.Prelude.{◌≡◌, ◌-◌, ◌^◌, ◌<◌, ◌≤◌, length, vec_len, OnSome, OnErr, IfSome, IfOk, Ok, Err};
 ghost use Rattle.std.specs.Option.{option_map};
 ghost use Rattle.std.specs.Result.{result_ok};
 ghost use Rattle.script.specs.Numbers.{counted_to};
@@ -100,11 +100,12 @@ impl<'a> Fields<'a> {
         node(self.field(Expected::Node)?)
     }
 
-    // What the next word writes.
+    // What the next word writes; what was expected, where it writes nothing of the kind.
     pub(crate) fn parsed<T: FromStr + Drop>(&mut self, expected: Expected) -> Result<T, Expected>
     where
         T::Err: Drop,
-        ensures { IfOk result (λ value. IfSome (first_word self.old.rest.now) (λ word. T.from_str_gives word (Ok value))) }
+        ensures value { IfOk result (λ value. IfSome (first_word self.old.rest.now) (λ word. T.from_str_gives word (Ok value))) }
+        ensures none { OnErr result (IfSome (first_word self.old.rest.now) (λ word. (e : T.Err) × T.from_str_gives word (Err e))) }
     {
         self.field(expected)?.parse().or(Err(expected))
     }

@@ -14,7 +14,11 @@ fn push_char(units: &mut Vec<u16>, c: char) -> Result<(), AllocError>
     ensures { OnOk result (units.new.items ≡ units.old.items ++ encode_utf16 c) }
 {
     let mut buffer = [0; 2];
-    units.extend_from_slice(c.encode_utf16(&mut buffer))
+    match c.encode_utf16(&mut buffer) {
+        // most have one, and a push takes less time
+        [unit] => Ok(units.push(*unit)?),
+        pair => units.extend_from_slice(pair),
+    }
 }
 
 pub(crate) fn bare(heap: Global, word: &str) -> Result<Vec<u16>, AllocError>

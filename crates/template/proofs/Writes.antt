@@ -25,6 +25,14 @@ over_fits [] old h = refl
 over_fits (t ∷ text) [] h = absurd (omega arith)
 over_fits (t ∷ text) (x ∷ old) h = ap (λ xs. t ∷ xs) (over_fits text old (omega arith))
 
+-- what comes after a text that fills the slice is not written
+over_full : (text more old : List ℕ) → length old ≤ length text → over (text ++ more) old ≡ over text old
+over_full [] [] [] h = refl
+over_full [] (u ∷ more) [] h = refl
+over_full [] more (x ∷ old) h = absurd (omega arith)
+over_full (t ∷ text) more [] h = refl
+over_full (t ∷ text) more (x ∷ old) h = ap (λ xs. t ∷ xs) (over_full text more old (omega arith))
+
 -- A loop over `raw` has come to the state s, and has the rest to read: what it wrote is the front of
 -- the cooked text, over what the slice held before, and ends at `end`.
 pub record Written (raw old : List ℕ) (s : State) (rest : List ℕ) (end : ℕ) (out : List ℕ) : Type 0 where
@@ -54,3 +62,7 @@ module _ {raw old out : List ℕ} {s : State} {i end : ℕ} (w : Written raw old
           wrote = is_put ∙ sym (rw (w.count, ← w.wrote) at (over_more w.front text old));
           on = sym (ends_more s raw i z inside is) ∙ w.on;
         }
+
+pub written_full : {raw old out rest : List ℕ} {s : State} {end : ℕ} → Written raw old s rest end out → length old ≤ end → out ≡ over (emitted Start raw) old
+written_full {old = old} {rest = rest} {s = s} w h =
+    w.wrote ∙ sym (over_full w.front (emitted s rest) old (omega (arith, w.count))) ∙ ap (λ t. over t old) w.whole

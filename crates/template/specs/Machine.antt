@@ -96,6 +96,11 @@ emitted s (u ∷ us) = units (stepped s u).cooked ++ emitted (stepped s u).next 
 abbrev pub cooked_length : List ℕ → Option ℕ
 cooked_length raw = cond (ends Start raw) (Some (length (emitted Start raw))) None
 
+-- a length, where it is no more than the room
+abbrev pub at_most : ℕ → Option ℕ → Option ℕ
+at_most room None = None
+at_most room (Some k) = cond (nat_le k room) (Some k) None
+
 -- units written from a place on, as far as the slice reaches
 abbrev pub put : List ℕ → ℕ → List ℕ → List ℕ
 put out at [] = out

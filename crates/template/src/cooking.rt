@@ -1,7 +1,7 @@
-ghost use Rattle.std.specs.Prelude.{◌≡◌, ◌+◌, ◌<◌, ◌^◌, length, slice_set};
+ghost use Rattle.std.specs.Prelude.{◌≡◌, ◌+◌, ◌<◌, ◌≤◌, ◌^◌, length, slice_set};
 ghost use Rattle.template.specs.declared.machine.State.TheVariants.{Start};
 ghost use Rattle.template.specs.Claims.{CookedInto};
-ghost use Rattle.template.specs.Machine.{cooked_length, emitted, over, put, units};
+ghost use Rattle.template.specs.Machine.{at_most, cooked_length, emitted, over, put, units};
 
 use crate::machine::{Cooked, State, advance, may_end};
 
@@ -35,9 +35,11 @@ fn put(cooked: Cooked, start: usize, out: &mut [u16]) -> usize
 }
 
 // Writes the cooked text over the front of `out`, as far as `out` reaches, and gives its length, if
-// `raw` is a raw part. A loop, since a proof knows nothing of what a closure writes through `out`.
-fn write_cooked(raw: &[u16], out: &mut [u16]) -> Option<usize>
-    ensures length { result ≡ cooked_length raw.now }
+// `raw` is a raw part and that is no more than `room`. Where it is more, the rest of `raw` isn't read.
+// A loop, since a proof knows nothing of what a closure writes through `out`.
+fn write_cooked(raw: &[u16], room: usize, out: &mut [u16]) -> Option<usize>
+    requires { length out.old ≤ room }
+    ensures length { result ≡ at_most room (cooked_length raw.now) }
     ensures wrote { out.new ≡ over (emitted Start raw.now) out.old }
 {
     let mut state = State::Start;
@@ -45,6 +47,9 @@ fn write_cooked(raw: &[u16], out: &mut [u16]) -> Option<usize>
     for unit in raw {
         let step = advance(state, *unit);
         end = put(step.cooked, end, out);
+        if end > room {
+            return None;
+        }
         state = step.next;
     }
     if may_end(state) { Some(end) } else { None }
@@ -57,9 +62,6 @@ pub fn cook(raw: &[u16], out: &mut [u16]) -> Option<usize>
     ensures { CookedInto raw.now out.old out.new result }
 {
     // counted over no units before it is written, so that a refusal writes nothing
-    let length = write_cooked(raw, &mut [])?;
-    if length > out.len() {
-        return None;
-    }
-    write_cooked(raw, out)
+    write_cooked(raw, out.len(), &mut [])?;
+    write_cooked(raw, out.len(), out)
 }

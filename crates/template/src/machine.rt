@@ -82,7 +82,8 @@ const RIGHT_BRACE: u16 = b'}' as u16;
 fn hex_value(unit: u16) -> Option<u32>
     ensures { result ≡ hex_value unit }
 {
-    char::from_u32(u32::from(unit))?.to_digit(16)
+    // by way of a byte, which takes less time than by way of a code point
+    char::from(u8::try_from(unit).ok()?).to_digit(16)
 }
 
 // A unit where a character begins.

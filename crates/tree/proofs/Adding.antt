@@ -7,11 +7,10 @@ use Rattle.nodes.specs.declared.shape.Part.{Part}
 use Rattle.nodes.specs.declared.shape.Shape.{Shape}
 use Rattle.nodes.specs.declared.shape.Shape.TheVariants as S
 use Rattle.nodes.specs.Meaning.{no_span, at}
-use Rattle.nodes.specs.Put.{kind_of, tallest, with_node}
+use Rattle.nodes.specs.Put.{kind_of, tallest, with_added}
 use Rattle.nodes.proofs.Building.{new_at, old_kind, old_after, old_parents, length_new}
 use Rattle.nodes.proofs.NewNode.{new_sound, new_held, new_single, new_others, new_stands, new_levels}
-use Rattle.tree.specs.State.{State, used, span_fits, kind_fits, Fitting}
-use Rattle.tree.proofs.Keeping.{Keeps}
+use Rattle.tree.specs.State.{Keeps, State, used, span_fits, kind_fits, Fitting}
 use Rattle.tree.specs.Calls.{name_listed, ShapeFits, Buildable, Built}
 
 -- the kind of a new node refers to what is there
@@ -39,7 +38,7 @@ module _ (written : Bool) (a : State) (sh : Shape) (ps : List Part) (k : Keeps a
   height = tallest a.entries ps + 4
 
   abbrev fs : List Entry
-  fs = with_node a.entries (kind_of sh ps) height ps
+  fs = with_added a.entries (kind_of sh ps) height ps
 
   long : length fs ≡ used a + 1
   long = length_new a.entries (kind_of sh ps) height ps k.sound ok.1.0
@@ -86,5 +85,5 @@ module _ (written : Bool) (a : State) (sh : Shape) (ps : List Part) (k : Keeps a
   }
 
   -- the same of entries that are those with the new node
-  pub added : (es : List Entry) (kd : Kind) (h : ℕ) → es ≡ with_node a.entries kd (h + 4) ps → kd ≡ kind_of sh ps → h ≡ tallest a.entries ps → Keeps (with_entries a es) × Built written a sh ps (used a) (with_entries a es)
+  pub added : (es : List Entry) (kd : Kind) (h : ℕ) → es ≡ with_added a.entries kd (h + 4) ps → kd ≡ kind_of sh ps → h ≡ tallest a.entries ps → Keeps (with_entries a es) × Built written a sh ps (used a) (with_entries a es)
   added es kd h w e f = let same : es ≡ fs = w ∙ rw (e, f) refl in subst (λ (xs : List Entry). Keeps (with_entries a xs) × Built written a sh ps (used a) (with_entries a xs)) (sym same) (keeps, says)

@@ -1,5 +1,4 @@
 pub mod Steps
-pub mod Keeping
 pub mod Marking
 pub mod Admitting
 pub mod Adding

@@ -11,9 +11,8 @@ use Rattle.nodes.specs.Meaning.{Texts, units_of, at, links_of, parts_of, expr, S
 use Rattle.nodes.proofs.Laws.{Same, frame, under}
 use Rattle.names.specs.declared.table.Class.{Class}
 use Rattle.names.specs.Table.{NotBefore, FirstAt}
-use Rattle.tree.specs.State.{State, span_fits, kind_fits, Fitting, Levelled}
+use Rattle.tree.specs.State.{Keeps, State, span_fits, kind_fits, Fitting, Levelled}
 use Rattle.tree.specs.Calls.{name_fits, Listable, Named}
-use Rattle.tree.proofs.Keeping.{Keeps}
 
 abbrev pub more : Texts → List ℕ → Texts
 more t x = record { names = t.names ++ (x ∷ []); source = t.source; folded = t.folded }

@@ -1,5 +1,5 @@
 -- What a tree holds, as its calls see it.
-use Rattle.std.specs.Prelude.{◌≡◌, ℕ, ◌*◌, ◌<◌, Bool, true, ◌&&◌, List, length, Some, None, Option, nat_lt}
+use Rattle.std.specs.Prelude.{◌≡◌, ℕ, ◌*◌, ◌<◌, ◌≤◌, Bool, true, ◌&&◌, List, length, Some, None, Option, nat_lt}
 use Rattle.units.specs.declared.span.Span.{Span}
 use Rattle.units.specs.Spans.{is_within}
 use Rattle.names.specs.declared.table.Class.{Class}
@@ -7,7 +7,7 @@ use Rattle.syntax.specs.Expr.{Expr, levels}
 use Rattle.nodes.specs.declared.kind.Kind.{Kind}
 use Rattle.nodes.specs.declared.kind.Kind.TheVariants as K
 use Rattle.nodes.specs.declared.kind.Entry.{Entry}
-use Rattle.nodes.specs.Meaning.{Texts, at, expr, Reaches}
+use Rattle.nodes.specs.Meaning.{Texts, at, expr, Reaches, Sound, Held, Single}
 
 pub record State : Type 0 where
   -- the nodes
@@ -67,3 +67,24 @@ Levelled root t es = root ≡ None → (n : ℕ) → n < length es → (at es n)
 
 abbrev pub Rooted : Option ℕ → List Entry → Type 0
 Rooted root es = (n : ℕ) → root ≡ Some n → n < length es
+
+-- what the nodes of every tree keep
+pub record Keeps (a : State) : Type 0 where
+  pub sound : Sound a.entries (used a)
+  pub held : Held a.entries (used a)
+  pub single : Single a.entries (used a)
+  pub fitting : Fitting a.texts a.entries
+  pub levelled : Levelled a.root a.texts a.entries
+  pub rooted : Rooted a.root a.entries
+
+-- and their number, and the length of the folded text
+pub record Kept (a : State) : Type 0 where
+  pub within : used a ≤ a.capacity
+  pub limited : a.capacity ≤ 4096
+  pub roomy : length a.texts.folded ≤ a.room
+  pub nodes : Keeps a
+
+-- a tree, as a clause sees it
+pub record Whole : Type 0 where
+  pub state : State
+  pub kept : Kept state

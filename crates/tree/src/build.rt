@@ -8,7 +8,7 @@ use crate::store::Store;
 use nodes::check::{are_free, tallest};
 use nodes::count::count_fits;
 use nodes::kind::Kind;
-use nodes::put::{kind_of, put};
+use nodes::put::{add, kind_of};
 use nodes::shape::{Part, Shape};
 use template::is_raw_part;
 use units::span::Span;
@@ -119,6 +119,6 @@ impl Store {
         ensures unchanged { OnErr result (state_of self.new ≡ state_of self.old) }
     {
         let (kind, below) = self.admit(shape, parts, written)?;
-        Ok(put(&mut self.entries, kind, below + LEVEL, parts))
+        Ok(add(&mut self.entries, kind, below + LEVEL, parts))
     }
 }

@@ -20,7 +20,7 @@ impl<W: NumberWriter + Drop> Tree<W> {
         source: &[u16],
         writer: W,
     ) -> Result<Tree<W>, OpenError>
-        ensures ok { IfOk result (λ t. Opened entries folded source.now t) }
+        ensures ok { IfOk result (λ t. Opened entries folded source.now t.state) }
         ensures refused { IfErr result (OpenRefused entries folded source.now) }
     {
         let store = Store::open(heap, entries, folded, source)?;
@@ -29,9 +29,9 @@ impl<W: NumberWriter + Drop> Tree<W> {
 
     // Lists a name, and says what it is; the answer is its index.
     pub fn name(&mut self, text: &[u16], class: Class) -> Result<u16, Refusal>
-        ensures ok { IfOk result (λ i. Named self.old text.now class i self.new) }
-        ensures refused { IfErr result (NameRefused self.old text.now class) }
-        ensures unchanged { OnErr result (self.new ≡ self.old) }
+        ensures ok { IfOk result (λ i. Named self.old.state text.now class i self.new.state) }
+        ensures refused { IfErr result (NameRefused self.old.state text.now class) }
+        ensures unchanged { OnErr result (self.new.state ≡ self.old.state) }
     {
         self.store.name(text, class)
     }
@@ -48,9 +48,9 @@ impl<W: NumberWriter + Drop> Tree<W> {
 
     // A new node over nodes that have no parent yet; it has the next number.
     pub fn build(&mut self, shape: Shape, parts: &[Part]) -> Result<u16, Refusal>
-        ensures ok { IfOk result (λ n. Built (is_written W.NumberWriter.text shape) self.old shape parts.now n self.new) }
-        ensures refused { IfErr result (BuildRefused (is_written W.NumberWriter.text shape) self.old shape parts.now) }
-        ensures unchanged { OnErr result (self.new ≡ self.old) }
+        ensures ok { IfOk result (λ n. Built (is_written W.NumberWriter.text shape) self.old.state shape parts.now n self.new.state) }
+        ensures refused { IfErr result (BuildRefused (is_written W.NumberWriter.text shape) self.old.state shape parts.now) }
+        ensures unchanged { OnErr result (self.new.state ≡ self.old.state) }
     {
         let written = self.is_written(shape);
         self.store.build(shape, parts, written)
@@ -58,18 +58,18 @@ impl<W: NumberWriter + Drop> Tree<W> {
 
     // Names the root: the tree is what stands below it.
     pub fn root(&mut self, n: u16) -> Result<(), Refusal>
-        ensures ok { OnOk result (RootNamed self.old n self.new) }
-        ensures refused { IfErr result (RootRefused self.old n) }
-        ensures unchanged { OnErr result (self.new ≡ self.old) }
+        ensures ok { OnOk result (RootNamed self.old.state n self.new.state) }
+        ensures refused { IfErr result (RootRefused self.old.state n) }
+        ensures unchanged { OnErr result (self.new.state ≡ self.old.state) }
     {
         self.store.root(n)
     }
 
     // The units of a string node, from whichever text holds them.
     pub fn read(&self, n: u16) -> Result<&[u16], Refusal>
-        ensures present { OnOk result (Present self.now n) }
-        ensures units { IfOk result (λ s. stands_for self.now n ≡ Expr.string s.now) }
-        ensures refused { IfErr result (ReadRefused self.now n) }
+        ensures present { OnOk result (Present self.now.state n) }
+        ensures units { IfOk result (λ s. stands_for self.now.state n ≡ Expr.string s.now) }
+        ensures refused { IfErr result (ReadRefused self.now.state n) }
     {
         self.store.read(n)
     }

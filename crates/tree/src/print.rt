@@ -9,8 +9,8 @@ use writer::NumberWriter;
 impl<W: NumberWriter + Drop> Tree<W> {
     // Writes the tree's text to the front of `out`, and tells its length in bytes.
     pub fn print(&self, out: &mut [u8]) -> Result<usize, Refusal>
-        ensures ok { IfOk result (λ n. PrintedTo W.NumberWriter.text self.now out.old n out.new) }
-        ensures refused { IfErr result (PrintRefused W.NumberWriter.text self.now out.old) }
+        ensures ok { IfOk result (λ n. PrintedTo W.NumberWriter.text self.now.state out.old n out.new) }
+        ensures refused { IfErr result (PrintRefused W.NumberWriter.text self.now.state out.old) }
         ensures unchanged { OnErr result (out.new ≡ out.old) }
     {
         let root = self.store.root.ok_or(Refusal::WrongTime)?;

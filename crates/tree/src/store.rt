@@ -13,7 +13,7 @@ use units::span::Texts;
 #[derive(Drop)]
 pub(crate) struct Store {
     pub(crate) entries: Vec<Entry>,
-    // how many nodes there may be: a `Vec` may have more room than was asked for
+    // how many nodes there may be
     pub(crate) capacity: usize,
     pub(crate) names: Names,
     pub(crate) source: Vec<u16>,

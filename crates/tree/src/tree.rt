@@ -1,6 +1,3 @@
-ghost use Rattle.tree.specs.State.{State};
-ghost use Rattle.tree.specs.Of.{state_of};
-
 use crate::store::Store;
 use std::marker::Model;
 
@@ -11,9 +8,12 @@ pub struct Tree<W> {
     pub(crate) writer: W,
 }
 
-// A clause sees a tree as the state that it holds.
+// A clause sees the state that a tree holds, and what every tree keeps.
 impl<W> Model for Tree<W> {
-    ghost Value = { State };
+    ghost use Rattle.tree.specs.State.{Whole};
+    ghost use Rattle.tree.specs.Of.{whole};
 
-    ghost view = { λ t. state_of t.store };
+    ghost Value = { Whole };
+
+    ghost view = { λ t. whole t.store };
 }

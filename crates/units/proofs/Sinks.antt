@@ -58,7 +58,7 @@ put-sets out at (b ∷ bs) h =
     rw e (put-sets (set out at b) (suc at) bs (omega arith) ∙ ap (λ k. (sets (set out at b) (suc at) bs, k)) n)
 
 -- bytes that fit stand at the front of the output
-put_fits : (out bs : List ℕ) → length bs ≤ length out → length bs < 2 ^ 64 - 1 → put (out, 0) bs ≡ (bs ++ drop (length bs) out, length bs)
+pub put_fits : (out bs : List ℕ) → length bs ≤ length out → length bs < 2 ^ 64 - 1 → put (out, 0) bs ≡ (bs ++ drop (length bs) out, length bs)
 put_fits out bs fits small =
     let e : sets out 0 bs ≡ bs ++ drop (0 + length bs) out = sets-eq bs out 0 (omega arith) in
     put-sets out 0 bs (omega arith) ∙ rw e (rw (zero-add (length bs)))

@@ -63,7 +63,17 @@ impl<'a> Texts<'a> {
     pub fn holds(self, span: Span) -> bool
         ensures { result ≡ is_within span (length self.entry.source.now) (length self.entry.folded.now) }
     {
-        let len = self.named(span.text).len();
-        span.start as usize + span.len as usize <= len
+        within(span, self.source.len(), self.folded.len())
     }
+}
+
+// Whether the span lies within texts of these lengths.
+pub fn within(span: Span, source: usize, folded: usize) -> bool
+    ensures { result ≡ is_within span source folded }
+{
+    let len = match span.text {
+        Text::Source => source,
+        Text::Folded => folded,
+    };
+    span.start as usize + span.len as usize <= len
 }

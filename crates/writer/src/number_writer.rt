@@ -1,7 +1,6 @@
 ghost use Rattle.std.specs.Prelude.{◌≡◌, ℕ, ◌≤◌, List, pos, is_some, Some, codes, Option, Float};
 ghost use Rattle.std.specs.Float.{binary64};
 ghost use Rattle.std.specs.Float.Ieee.{of_int};
-ghost use Rattle.writer.specs.declared.number_writer.TheConstants.{MAX_BYTES};
 ghost use Rattle.writer.specs.Writers.{Within, Exact, Wrote};
 
 use arrayvec::ArrayString;
@@ -24,7 +23,7 @@ pub trait NumberWriter {
     fn write(&self, x: f64) -> Option<NumberText>
         ensures { Wrote (text x) result };
 
-    ghost short: { LONGEST ≤ MAX_BYTES };
+    ghost short: { LONGEST ≤ 64 };
 
     ghost within: { Within LONGEST text };
 

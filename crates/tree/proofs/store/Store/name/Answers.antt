@@ -5,8 +5,8 @@ use Rattle.std.proofs.lemmas.Bool.{and_from}
 use Rattle.names.specs.Table.{texts, classes, listed, text_of, class_of}
 use Rattle.words.specs.Words as Words
 use Rattle.tree.specs.Calls.{class_fits, name_fits, Listable, Named}
-use Rattle.tree.specs.Of.{state_of}
-use Rattle.tree.proofs.Keeping.{Keeps, kept}
+use Rattle.tree.specs.State.{Keeps}
+use Rattle.tree.specs.Of.{keeps, state_of}
 use Rattle.tree.proofs.Naming.{with_names, named, not_found, set_last}
 use Rattle.tree.proofs.store.Store.name.Goals as goal
 use Rattle.tree.proofs.store.Store.name.Goals.{After-classify}
@@ -20,7 +20,7 @@ listed_once c =
     let long : length (classes self.names) ≡ c.in_ok-i.i = length-map (listed self.names) class_of ∙ sym (length-map (listed self.names) text_of) ∙ sym a.0 in
     let fits : name_fits (state_of self) c.args.text.now c.args.class ≡ true = and_from (Words.name c.args.text.now) (class_fits (state_of self) c.args.class) (sym c.is_name.ensures.decides ∙ c.if-not-is_name.false) (sym c.class_fits.ensures ∙ c.if-not-class_fits.false) in
     let new : Listable (state_of self) c.args.text.now = (not_found (texts self.names) c.args.text.now c.find.result c.is_some.result c.find.ensures c.is_some.ensures c.if-is_some.false, omega (arith, a.0, a.1)) in
-    named (state_of self) c.args.text.now c.args.class c.in_ok-i.i (texts c.classify.new.self) (classes c.classify.new.self) (kept self)
+    named (state_of self) c.args.text.now c.args.class c.in_ok-i.i (texts c.classify.new.self) (classes c.classify.new.self) (keeps self)
     (c.in_ok-check_unrooted.ensures.ok, fits, new)
     a.0
     (c.classify.ensures.texts ∙ a.3)
