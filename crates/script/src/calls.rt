@@ -1,7 +1,7 @@
 // What a line of a script asks for.
 ghost use Rattle.std.specs.Prelude.{vec_len};
 ghost use Rattle.script.specs.Arity.{Takes, Takes-prop};
-ghost use Rattle.script.specs.Places.{IsShapeInSource, ArePartsInSource};
+ghost use Rattle.script.specs.Places.{IsShapeInSource, IsShapeInSource-prop, ArePartsInSource};
 
 use names::table::Class;
 use nodes::shape::{Part, Shape};
@@ -12,14 +12,14 @@ pub enum WriterName {
     Short,
 }
 
-// A node to build: as many operands as its shape takes, and each span a part of the source text. In `∥ ∥₁` a fact
-// says no more than that it holds, which a field's fact must.
+// A node to build: as many operands as its shape takes, and each span a part of the source text. After `by` stands
+// that the fact before it is a mere fact, as a field's has to be.
 #[derive(Drop)]
 pub struct Build {
     pub shape: Shape,
     pub parts: Vec<Part>,
     ghost filled: { Takes shape (vec_len parts) } by { Takes-prop shape (vec_len parts) },
-    ghost shape_placed: { ∥ IsShapeInSource shape ∥₁ },
+    ghost shape_placed: { IsShapeInSource shape } by { IsShapeInSource-prop shape },
     ghost parts_placed: { ArePartsInSource parts.items },
 }
 
