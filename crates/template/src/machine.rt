@@ -17,8 +17,9 @@ pub enum State {
     Zero,
     // after `\u`
     Unicode,
-    // in `\x` or `\u` and hex digits: how many come after the next one, and the value so far
-    Digits { after: u8, value: u32 },
+    // in `\x` or `\u` and hex digits: how many come after the next one, and the value so far. `after` is wider
+    // than it need be: a fold packs a smaller state into a register and unpacks it at each unit
+    Digits { after: usize, value: u32 },
     // after `\u{`
     Open,
     // in `\u{` and hex digits, with the value so far
@@ -82,7 +83,8 @@ const RIGHT_BRACE: u16 = b'}' as u16;
 fn hex_value(unit: u16) -> Option<u32>
     ensures { result ≡ hex_value unit }
 {
-    char::from_u32(u32::from(unit))?.to_digit(16)
+    // by way of a byte, which takes less time than by way of a code point
+    char::from(u8::try_from(unit).ok()?).to_digit(16)
 }
 
 // A unit where a character begins.
@@ -156,7 +158,7 @@ fn code_point(value: u32) -> Step
 }
 
 // A digit of an escape with two or four.
-fn fixed(after: u8, value: u32, unit: u16) -> Step
+fn fixed(after: usize, value: u32, unit: u16) -> Step
     ensures { result ≡ fixed after (grown value (hex_value unit)) }
 {
     match with_digit(value, unit) {
